@@ -1,0 +1,35 @@
+-- An answer of 0 says that no check of the list fails.
+-- Assumes nothing.
+use Prim.Native.Nat.{ℕ}
+use mathlib.Core.Path.{_≡_, refl}
+use mathlib.Core.Bool.{Bool, true, false, not, cond, _&&_}
+use mathlib.Core.List.{List, [], _∷_}
+use lib.Dec.{eqb}
+use borrow.Author.Tests.{eqb-false, not-true}
+use Rattle.laws.specs.Checks.{Check, firstFailing}
+use Rattle.laws.proofs.Bools.{and-left, and-right}
+
+-- no check's own number is 0: it computes
+abbrev pub numbered : List Check → Bool
+numbered [] = true
+numbered (c ∷ cs) = not (eqb (c .number) 0) && numbered cs
+
+abbrev pub NoneFails : List Check → Type 0
+NoneFails [] = Unit {0}
+NoneFails (c ∷ cs) = (c .fails ≡ false) × NoneFails cs
+
+passes : (b : Bool) (n x : ℕ) → not (eqb n 0) ≡ true → cond b n x ≡ 0 → (b ≡ false) × (x ≡ 0)
+passes true n x h e = absurd (eqb-false n 0 (not-true (eqb n 0) h) e)
+passes false n x h e = (refl, e)
+
+pub none-fails : (cs : List Check) → numbered cs ≡ true → firstFailing cs ≡ 0 → NoneFails cs
+none-fails [] h e = tt
+none-fails (c ∷ cs) h e =
+    let n = not (eqb (c .number) 0) in
+    let p = passes (c .fails) (c .number) (firstFailing cs) (and-left n (numbered cs) h) e in
+    (p .0, none-fails cs (and-right n (numbered cs) h) (p .1))
+
+-- and where none fails the answer is 0
+pub all-pass : (cs : List Check) → NoneFails cs → firstFailing cs ≡ 0
+all-pass [] h = refl
+all-pass (c ∷ cs) h = rw (h .0) (all-pass cs (h .1))

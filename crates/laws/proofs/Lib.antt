@@ -1,0 +1,10 @@
+-- Laws that more than one crate cites.
+pub mod Split
+pub mod Bools
+pub mod Checks
+pub mod Tests
+pub mod Loop
+pub mod Table
+pub mod Ring
+pub mod Bits
+pub mod Rows
