@@ -129,3 +129,12 @@ pub sum-below : (f : ℕ → ℕ) (n m : ℕ) → ((i : ℕ) → i < n → f i �
 unfolding sumBelow
 sum-below f zero m e = omega arith
 sum-below f (suc n) m e = omega (arith, sum-below f n m (λ i l. e i (omega arith)), e n (omega arith))
+
+-- nothing is added from k on
+pub sum-tail : (f : ℕ → ℕ) (k n : ℕ) → k ≤ n → ((i : ℕ) → k ≤ i → i < n → f i ≡ 0) → sumBelow f n ≡ sumBelow f k
+unfolding sumBelow
+sum-tail f k zero l e = let z : k ≡ 0 = omega arith in rw z
+sum-tail f k (suc n) l e =
+    by-dec (ℕ-discrete k (suc n))
+    (λ z. rw z)
+    (λ z. omega (arith, sum-tail f k n (omega arith) (λ i a b. e i a (omega arith)), e n (omega arith) (omega arith)))

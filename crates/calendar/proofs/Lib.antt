@@ -1,0 +1,6 @@
+pub mod Lengths
+pub mod Place
+pub mod Dates
+pub mod Answers
+pub mod Times
+pub mod Digits
