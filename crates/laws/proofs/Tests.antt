@@ -138,3 +138,8 @@ sum-tail f k (suc n) l e =
     by-dec (ℕ-discrete k (suc n))
     (λ z. rw z)
     (λ z. omega (arith, sum-tail f k n (omega arith) (λ i a b. e i a (omega arith)), e n (omega arith) (omega arith)))
+
+pub sum-cons : (f : ℕ → ℕ) (n : ℕ) → sumBelow f (suc n) ≡ f 0 + sumBelow (λ (i : ℕ). f (suc i)) n
+unfolding sumBelow
+sum-cons f zero = omega arith
+sum-cons f (suc n) = omega (arith, sum-cons f n)
