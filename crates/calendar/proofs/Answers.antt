@@ -1,7 +1,7 @@
 -- Each answer of the code from its own cause, in the needs' direction, for `search`.
 -- Assumes nothing.
-use mathlib.Core.Path.{_≡_, refl, sym, ap, _∙_}
-use mathlib.Core.Bool.{Bool, true, false, _&&_}
+use mathlib.Core.Path.{_≡_, sym, ap, _∙_}
+use mathlib.Core.Bool.{false}
 use Prim.Native.Nat.{ℕ, _+_, _-_, _*_, _/_, _%_, _≤_, _<_}
 use native.Mathlib.Omega.{arith}
 use borrow.Author.Tests.{lt-ltb, le-ltb, lt-leb, eq-eqb, ne-eqb}
@@ -18,7 +18,7 @@ use Rattle.calendar.specs.declared.Moment.the-variants.{At, Unreal as Ne
 use Rattle.calendar.specs.Calendar.{daysInAll, place, yearLength, monthLength, realDate, dayNumber, dayOf, inMonth, inYear, dateOf}
 use Rattle.calendar.specs.Clock.{secondsOfDay, timesInAll, realClock, realStamp, secondNumber, secondOf, stampOf, endedAt, endedOn}
 use Rattle.calendar.specs.Digits.{dateDigits, timeDigits, dayOn, stampIn, secondsOn}
-use Rattle.calendar.proofs.Dates.{Real, real-date, day-short, date-real, unreal-date, found-date, found-is}
+use Rattle.calendar.proofs.Dates.{real-date, day-short, date-real, unreal-date, found-date, found-is}
 
 -- ---- date_of_day
 

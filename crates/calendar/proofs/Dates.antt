@@ -1,19 +1,15 @@
 -- Day numbers and real dates are one to one.
 -- Assumes nothing.
-use mathlib.Core.Path.{_≡_, refl, sym, ap, _∙_}
+use mathlib.Core.Path.{_≡_, refl, ap}
 use mathlib.Core.Bool.{Bool, true, false, cond, _&&_}
-use Prim.Native.Nat.{ℕ, zero, suc, _+_, _-_, _≤_, _<_}
+use Prim.Native.Nat.{ℕ, _+_, _-_, _≤_, _<_}
 use native.Mathlib.Omega.{arith}
-use native.Mathlib.Decide.{decLt}
-use borrow.Author.Tests.{lt-ltb, le-ltb, le-leb, ltb-true, leb-true}
+use borrow.Author.Tests.{lt-ltb, le-leb, ltb-true, leb-true}
 use lib.Dec.{ltb, leb}
 use Rattle.laws.specs.Tests.{sumBelow}
-use Rattle.laws.proofs.Split.{by-dec}
 use Rattle.laws.proofs.Bools.{both}
 use Rattle.laws.proofs.Tests.{sum-none}
-use Rattle.calendar.specs.declared.Date.{Date}
 use Rattle.calendar.specs.declared.Spot.{Spot}
-use Rattle.calendar.specs.declared.Found.{Found}
 use Rattle.calendar.specs.declared.Found.the-variants.{Day, Unreal}
 use Rattle.calendar.specs.Calendar.{daysInAll, place, leapDay, yearLength, months, monthLength, realDate, dayNumber, dayOf, inMonth, inYear, dateOf}
 use Rattle.calendar.proofs.Lengths.{month-le, all-years, all-months}

@@ -1,17 +1,14 @@
 -- Lengths in a row: the place of a number in them, and back, for any lengths.
 -- Assumes nothing.
 use mathlib.Core.Path.{_≡_, refl, sym, ap, ap₂, _∙_}
-use mathlib.Core.Bool.{Bool, true, false}
-use Prim.Native.Nat.{ℕ, zero, suc, _+_, _-_, _*_, _≤_, _<_}
+use Prim.Native.Nat.{ℕ, zero, suc, _+_, _-_, _≤_, _<_}
 use native.Mathlib.Nat.{add-zero, zero-add, add-suc, suc-add}
 use native.Mathlib.Numerals.{add-one}
 use native.Mathlib.Omega.{arith}
 use native.Mathlib.Decide.{decLt}
 use borrow.Author.Tests.{lt-ltb, le-ltb}
-use lib.Dec.{ltb}
 use Rattle.laws.specs.Tests.{sumBelow}
 use Rattle.calendar.specs.Calendar.{place}
-use Rattle.calendar.specs.declared.Spot.{Spot}
 
 module _ (len : ℕ → ℕ) where
   -- one step of the walk, either way
@@ -65,7 +62,7 @@ module _ (len : ℕ → ℕ) where
 
   sum-from : (j k : ℕ) → sumBelow len (k + j) ≡ sumBelow len k + from k j
   unfolding sumBelow from
-  sum-from zero k = rw add-zero (omega arith)
+  sum-from zero k = rw (add-zero k) (omega arith)
   sum-from (suc j) k = ap (sumBelow len) (add-suc k j ∙ sym (suc-add k j)) ∙ sum-from j (suc k) ∙ (omega arith)
 
   place-from : (j f k n : ℕ) → j ≤ f → n < len (k + j) → place len f k (from k j + n) ≡ record { which = k + j; rest = n }

@@ -10,9 +10,8 @@ use lib.Dec.{ltb}
 use Rattle.laws.proofs.Bools.{both}
 use Rattle.laws.proofs.Split.{by-dec}
 use Rattle.calendar.specs.declared.Stamp.{Stamp}
-use Rattle.calendar.specs.declared.Moment.{Moment}
 use Rattle.calendar.specs.declared.Moment.the-variants.{At, Unreal}
-use Rattle.calendar.specs.Calendar.{daysInAll, realDate, dayNumber, dateOf}
+use Rattle.calendar.specs.Calendar.{realDate, dayNumber}
 use Rattle.calendar.specs.Clock.{secondsOfDay, secondsOfHalf, halvesOfDay, timesInAll, realClock, realStamp, secondNumber, secondOf, stampOf, endedAt, endedOn}
 use Rattle.calendar.proofs.Dates.{Real, real-facts, real-date, day-below, date-of-day-of, date-real, day-of-date-of}
 use Rattle.calendar.proofs.Answers.{ended-before, ended-today, ended-after}

@@ -1,7 +1,7 @@
 -- Days and dates (document 01, "Quantities": 2000-01-01 to 2099-12-31; YY means 20YY). A day is its number, 0 for 2000-01-01.
 -- In these hundred years a year is a leap year exactly where 4 divides it: 2000 is one, and 2100 is past the end.
 use mathlib.Core.Bool.{Bool, cond, _&&_}
-use mathlib.Core.List.{List, [], _∷_}
+use mathlib.Core.List.{[], _∷_}
 use Prim.Native.Nat.{ℕ, zero, suc, _+_, _-_, _%_}
 use lib.Dec.{eqb, ltb, leb}
 use lib.ListN.{getD}
@@ -13,9 +13,6 @@ use Rattle.calendar.specs.declared.Found.the-variants.{Day, Unreal}
 
 abbrev pub daysInAll : ℕ
 daysInAll = 36525
-
-abbrev pub lastDay : ℕ
-lastDay = 36524
 
 -- one day more in a leap year
 unfoldable pub leapDay : ℕ → ℕ

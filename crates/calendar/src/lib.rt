@@ -3,7 +3,7 @@
 ghost use mathlib.Core.Path.{_≡_};
 ghost use Prim.Native.Nat.{_+_, _*_, _<_, _≤_};
 ghost use Rattle.laws.specs.Tests.{sumBelow};
-ghost use Rattle.calendar.specs.Calendar.{daysInAll, leapDay, yearLength, monthLength, place, dayOf, dateOf};
+ghost use Rattle.calendar.specs.Calendar.{leapDay, yearLength, monthLength, place, dayOf, dateOf};
 ghost use Rattle.calendar.specs.Clock.{secondOf, stampOf, endedAt, endedOn};
 ghost use Rattle.calendar.specs.Digits.{dateDigits, timeDigits, dayOn, secondsOn};
 
