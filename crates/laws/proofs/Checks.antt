@@ -3,11 +3,12 @@
 use Prim.Native.Nat.{ℕ}
 use mathlib.Core.Path.{_≡_, refl}
 use mathlib.Core.Bool.{Bool, true, false, not, cond, _&&_}
-use mathlib.Core.List.{List, [], _∷_}
+use mathlib.Core.List.{List, [], _∷_, _++_}
 use lib.Dec.{eqb}
 use borrow.Author.Tests.{eqb-false, not-true}
 use Rattle.laws.specs.Checks.{Check, firstFailing}
 use Rattle.laws.proofs.Bools.{and-left, and-right}
+use Rattle.laws.proofs.Split.{by-test}
 
 -- no check's own number is 0: it computes
 abbrev pub numbered : List Check → Bool
@@ -33,3 +34,17 @@ none-fails (c ∷ cs) h e =
 pub all-pass : (cs : List Check) → NoneFails cs → firstFailing cs ≡ 0
 all-pass [] h = refl
 all-pass (c ∷ cs) h = rw (h .0) (all-pass cs (h .1))
+
+-- checks before others: what the first refuse is refused, and where they pass the others decide
+pub refused-first : (cs ds : List Check) → (firstFailing cs ≡ 0 → ⊥) → firstFailing cs ≡ firstFailing (cs ++ ds)
+refused-first [] ds h = absurd (h refl)
+refused-first (c ∷ cs) ds h =
+    by-test (c .fails)
+    (λ e. rw e)
+    (λ e. rw e (refused-first cs ds (λ z. h (rw e z))))
+
+pub passed-first : (cs ds : List Check) → numbered cs ≡ true → firstFailing cs ≡ 0 → firstFailing ds ≡ firstFailing (cs ++ ds)
+passed-first [] ds h e = refl
+passed-first (c ∷ cs) ds h e =
+    let p = passes (c .fails) (c .number) (firstFailing cs) (and-left (not (eqb (c .number) 0)) (numbered cs) h) e in
+    rw (p .0) (passed-first cs ds (and-right (not (eqb (c .number) 0)) (numbered cs) h) (p .1))
