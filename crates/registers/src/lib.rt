@@ -2,7 +2,7 @@
 ghost use mathlib.Core.Path.{_≡_};
 ghost use Prim.Native.Nat.{_≤_};
 ghost use Rattle.quantity.specs.Units.{units};
-ghost use Rattle.registers.specs.Energy.{Countable, weightOk, rateOk, ratesOk, energyOk, pulsesOf, addedOf, mostAdded, unitsWith, energyCounted, energyLast, energyRate};
+ghost use Rattle.registers.specs.Energy.{Countable, weightOk, rateOk, ratesOk, energyOk, pulsesOf, addedOf, mostAdded, unitsWith, energyCounted};
 ghost use Rattle.registers.specs.Demand.{Resettable, demandOk, larger, demandRaised, demandReset, noDemand};
 use quantity::CentiKilowatts;
 use quantity::RegisterUnits;
@@ -110,20 +110,6 @@ impl Energy {
         next.last = c;
         next.rates[at] = register.plus(added);
         next
-    }
-
-    pub fn with_last(mut self, c: u32) -> Energy
-        ensures { λ r. ⌜ r ≡ energyLast c self ⌝ }
-    {
-        self.last = c;
-        self
-    }
-
-    pub fn with_rate(mut self, n: u32) -> Energy
-        ensures { λ r. ⌜ r ≡ energyRate n self ⌝ }
-    {
-        self.rate = n;
-        self
     }
 }
 

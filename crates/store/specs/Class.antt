@@ -1,6 +1,8 @@
 -- Classes a, b, c, d hold 20, 100, 250, 450 days, the current day among them (document 01, "Set-up"), and the store's length depends on the class alone.
 -- Blank is the class that is no class, and holds none.
 use Prim.Native.Nat.{ℕ, _*_}
+use mathlib.Core.Bool.{Bool, _&&_}
+use lib.Dec.{eqb}
 use Rattle.store.specs.declared.Class.{Class}
 use Rattle.store.specs.declared.Class.the-variants.{A, B, C, D, Blank}
 
@@ -21,3 +23,7 @@ dayValues = 48
 
 abbrev pub dayWords : ℕ
 dayWords = 3
+
+-- the lengths of the three slices
+abbrev pub rightLengths : ℕ → ℕ → ℕ → ℕ → Bool
+rightLengths cap values starts marks = eqb values (cap * dayValues) && eqb starts cap && eqb marks (cap * dayWords)

@@ -1,0 +1,310 @@
+// The recorder of one circuit, by value, over a store of days that it is lent: set-up, and one step for each event.
+// A call hands back the recorder, the answer number and what it carries; a refusal leaves recorder and store as they were.
+ghost use mathlib.Core.Path.{_≡_};
+ghost use mathlib.Core.Bool.{true, not, cond};
+ghost use Prim.Native.Nat.{max, min, _<_, _≤_, _+_, _-_};
+ghost use lib.Dec.{ltb};
+ghost use lib.ListN.{length};
+ghost use Rattle.laws.specs.Tests.{allTrue};
+ghost use Rattle.registers.specs.Energy.{Countable, rateOk};
+ghost use Rattle.registers.specs.Demand.{Resettable};
+ghost use Rattle.store.specs.Store.{Fits, Words, store, flagAt, flagged};
+ghost use Rattle.recorder.specs.Recorder.{mem, capOf, halfOf, todayOf, clockIs};
+ghost use Rattle.recorder.specs.Range.{identityTests, clockTests, runningOk, inRange};
+ghost use Rattle.recorder.specs.Boundary.{ended, advanceTo};
+ghost use Rattle.recorder.specs.Effect.{counted, lastIs, rateIs, wasReset, accessed, reversed, firstFlagged, flagToday, flagFrom, powerLost, meterChanged, demandCleared, after};
+ghost use Rattle.recorder.specs.Answer.{inTime, mostUnits, unitsAfter, eventAnswer, answerWith, answerOf};
+ghost use Rattle.recorder.specs.Step.{done, step};
+ghost use Rattle.recorder.specs.SetUp.{given, setUpTests, setUpAnswer, fresh, blank, setUp};
+ghost use Rattle.recorder.specs.Needs.{Good, Goes};
+use quantity::RegisterUnits;
+use quantity::WattHours;
+use registers::Demand;
+use registers::Energy;
+use store::Class;
+
+pub struct Identity {
+    pub identifier: [u8; 12],
+    pub class: Class,
+    pub weight: WattHours,
+}
+
+// The present time, whether power is on, and the days stored.
+pub struct Present {
+    pub time: u64,
+    pub on: bool,
+    pub days: u32,
+}
+
+// The running half-hour: the reading at its start, and its two marks.
+pub struct Running {
+    pub base: RegisterUnits,
+    pub reverse: bool,
+    pub level2: bool,
+}
+
+pub struct Recorder {
+    pub identity: Identity,
+    pub clock: Present,
+    pub energy: Energy,
+    pub demand: Demand,
+    pub running: Running,
+}
+
+pub enum Event {
+    Count(u32),
+    Clock(u64),
+    Off,
+    On(u64),
+    Access,
+    Meter(u32),
+    Reset,
+    Rate(u32),
+    Reverse,
+}
+
+// What set-up, an event and a read hand back.
+pub struct Stepped {
+    pub recorder: Recorder,
+    pub answer: u32,
+    pub carried: u32,
+}
+
+// What a recorder is set up with.
+pub struct SetUp {
+    pub identifier: [u8; 12],
+    pub class: Class,
+    pub weight: WattHours,
+    pub time: u64,
+    pub total: WattHours,
+    pub counter: u32,
+}
+
+const HALF_HOUR: u64 = 1800;
+
+const DAY: u64 = 86400;
+
+const END_TIME: u64 = 3155760000;
+
+const DAY_HALVES: u32 = 48;
+
+const MOST_UNITS: u64 = 9999;
+
+const POWER_LOST: u64 = 0x80;
+
+const METER_CHANGED: u64 = 0x40;
+
+const DEMAND_RESET: u64 = 0x20;
+
+fn larger(a: u32, b: u32) -> u32
+    ensures { λ r. ⌜ r ≡ max a b ⌝ }
+{
+    if a < b { b } else { a }
+}
+
+fn smaller(a: u32, b: u32) -> u32
+    ensures { λ r. ⌜ r ≡ min a b ⌝ }
+{
+    if a < b { a } else { b }
+}
+
+fn less(a: u32, b: u32) -> u32
+    ensures { λ r. ⌜ r ≡ a - b ⌝ }
+{
+    if a < b { 0 } else { a - b }
+}
+
+// The number where the test fails, else what comes next.
+fn first_of(fails: bool, number: u32, next: u32) -> u32
+    ensures { λ r. ⌜ r ≡ cond fails number next ⌝ }
+{
+    if fails { number } else { next }
+}
+
+// The answers that power, a time and a rate give.
+fn power_answer(wrong: bool) -> u32
+    ensures { λ r. ⌜ r ≡ cond wrong 1 0 ⌝ }
+{
+    first_of(wrong, 1, 0)
+}
+
+fn time_answer(wrong: bool, now: u64, t: u64) -> u32
+    ensures { λ r. ⌜ r ≡ cond wrong 1 (cond (not (inTime now t)) 2 0) ⌝ }
+{
+    first_of(wrong, 1, first_of(!((now <= t) & (t < END_TIME)), 2, 0))
+}
+
+fn rate_answer(wrong: bool, n: u32) -> u32
+    ensures { λ r. ⌜ r ≡ cond wrong 1 (cond (not (rateOk n)) 6 0) ⌝ }
+{
+    first_of(wrong, 1, first_of(!registers::rate_ok(n), 6, 0))
+}
+
+impl Recorder {
+    // ---- ranges
+
+    fn identity_ok(self) -> bool
+        ensures { λ r. ⌜ r ≡ allTrue (identityTests (self .identity)) ⌝ }
+    {
+        let identity = self.identity;
+        let id = identity.identifier;
+        identifier::valid(id) & registers::weight_ok(identity.weight)
+    }
+
+    fn clock_ok(self) -> bool
+        ensures { λ r. ⌜ r ≡ allTrue (clockTests self) ⌝ }
+    {
+        let identity = self.identity;
+        let class = identity.class;
+        let days = self.clock.days;
+        (self.clock.time < END_TIME)
+            & (1 <= days)
+            & (days <= class.days())
+            & ((days as u64) <= self.clock.time / DAY + 1)
+    }
+
+    fn in_range(self) -> bool
+        ensures { λ r. ⌜ r ≡ inRange self ⌝ }
+    {
+        let energy = self.energy;
+        let demand = self.demand;
+        self.identity_ok()
+            & self.clock_ok()
+            & energy.in_range()
+            & demand.in_range()
+            & (self.running.base.0 < quantity::READING_ROUND)
+    }
+
+    // ---- answers
+
+    // A Count's answer.
+    fn count_answer(self, c: u32) -> u32
+        requires { ⌜ Countable (self .identity .weight) (self .energy) ⌝ }
+        ensures { λ r. ⌜ r ≡ cond (not (self .clock .on)) 1 (cond (ltb mostUnits (unitsAfter self c)) 3 0) ⌝ }
+    {
+        let identity = self.identity;
+        let running = self.running;
+        let energy = self.energy;
+        let units = energy.units_with(identity.weight, running.base, c);
+        first_of(!self.clock.on, 1, first_of(MOST_UNITS < units.0, 3, 0))
+    }
+
+    // The answer to an event, of a recorder in range with a store of its lengths.
+    fn event_answer(self, event: Event) -> u32
+        requires { ⌜ Countable (self .identity .weight) (self .energy) ⌝ }
+        ensures { λ r. ⌜ r ≡ eventAnswer (self .clock .on) (self .clock .time) (unitsAfter self) event ⌝ }
+    {
+        let on = self.clock.on;
+        let now = self.clock.time;
+        match event {
+            Event::Count(c) => self.count_answer(c),
+            Event::Clock(t) => time_answer(!on, now, t),
+            Event::Off => power_answer(!on),
+            Event::On(t) => time_answer(on, now, t),
+            Event::Access => power_answer(!on),
+            Event::Meter(_) => power_answer(!on),
+            Event::Reset => power_answer(!on),
+            Event::Rate(n) => rate_answer(!on, n),
+            Event::Reverse => power_answer(!on),
+        }
+    }
+
+    // The answer to an event, with a store of these lengths.
+    fn answer(self, event: Event, values: usize, starts: usize, marks: usize) -> u32
+        ensures { λ r. ⌜ r ≡ answerWith self event values starts marks ⌝ }
+    {
+        let identity = self.identity;
+        let class = identity.class;
+        if class.days() == 0 {
+            return 5;
+        }
+        if !class.fits(values, starts, marks) {
+            return 4;
+        }
+        if !self.in_range() {
+            return 5;
+        }
+        self.event_answer(event)
+    }
+
+    // ---- effects on the recorder alone
+
+    fn with_clock(mut self, time: u64, on: bool, days: u32) -> Recorder
+        ensures { λ r. ⌜ r ≡ clockIs time on days self ⌝ }
+    {
+        self.clock.time = time;
+        self.clock.on = on;
+        self.clock.days = days;
+        self
+    }
+
+    fn accessed(mut self) -> Recorder
+        ensures { λ r. ⌜ r ≡ accessed self ⌝ }
+    {
+        self.running.level2 = true;
+        self
+    }
+
+    fn reversed(mut self) -> Recorder
+        ensures { λ r. ⌜ r ≡ reversed self ⌝ }
+    {
+        self.running.reverse = true;
+        self
+    }
+
+    fn counted(mut self, c: u32) -> Recorder
+        requires { ⌜ Countable (self .identity .weight) (self .energy) ⌝ }
+        ensures { λ r. ⌜ r ≡ counted c self ⌝ }
+    {
+        let identity = self.identity;
+        let energy = self.energy;
+        self.energy = energy.counted(identity.weight, c);
+        self
+    }
+
+    fn last_is(mut self, c: u32) -> Recorder
+        ensures { λ r. ⌜ r ≡ lastIs c self ⌝ }
+    {
+        self.energy.last = c;
+        self
+    }
+
+    fn rate_is(mut self, n: u32) -> Recorder
+        ensures { λ r. ⌜ r ≡ rateIs n self ⌝ }
+    {
+        self.energy.rate = n;
+        self
+    }
+
+    fn was_reset(mut self) -> Recorder
+        requires { ⌜ Resettable (todayOf self) (self .demand) ⌝ }
+        ensures { λ r. ⌜ r ≡ wasReset self ⌝ }
+    {
+        let demand = self.demand;
+        let today = (self.clock.time / DAY) as u32;
+        self.demand = demand.reset_on(today);
+        self
+    }
+
+    // The running half-hour ends.
+    fn ended(mut self) -> Recorder
+        ensures { λ r. ⌜ r ≡ ended self ⌝ }
+    {
+        let energy = self.energy;
+        let running = self.running;
+        let demand = self.demand;
+        let reading = energy.total.reading();
+        let value = reading.last_four();
+        let before = running.base.last_four();
+        let advance = value.advance_from(before);
+        let raised = demand.raised(advance.demand());
+        let next = Running {
+            base: reading,
+            reverse: false,
+            level2: false,
+        };
+        self.demand = raised;
+        self.running = next;
+        self
+    }
+}
