@@ -18,9 +18,10 @@ use Rattle.registers.specs.declared.Demand.{Demand}
 use Rattle.registers.specs.Demand.{larger, demandRaised}
 use Rattle.registers.specs.Time.{halfHour}
 use Rattle.store.specs.Class.{dayValues}
-use Rattle.store.specs.Store.{Store, store, turned, passAt, passed}
+use Rattle.store.specs.Store.{Store, store, turned, passAt, passed, gone}
 use Rattle.recorder.specs.Recorder.{Recorder, Mem, mem, with, capOf, halfOf, readingNow, withDemand, withRunning, clockIs}
-use Rattle.recorder.specs.Boundary.{demandNow, ended, daysAfter, closeOne, closeAt, advanceTo}
+use Rattle.recorder.specs.Boundary.{demandNow, ended, daysAfter, closeOne, closeAt, advanceTo, daysAt, goneTo, storeAt}
+use Rattle.recorder.specs.Needs.{Goes}
 
 -- what the code makes of the running half-hour's end
 pub ended-done : (r : Recorder) (reading value before advance : RegisterUnits) (x : CentiKilowatts) (d : Demand)
@@ -84,19 +85,10 @@ passed-over (suc n) i days on r s l =
     (passed-over n (i + 1) (daysAfter (capOf r) i days) on r (passAt (capOf r) (lastFour (readingNow r) .0) (readingNow r .0) i s) (days-few (capOf r) i days l))
 
 -- Clock(t) past the end of the running half-hour: that one ends, and the others are passed over
-abbrev pub daysAt : ℕ → Recorder → ℕ
-daysAt n r = min (capOf r) (r .clock .days + (n / dayValues - halfOf r / dayValues))
-
-abbrev pub storeAt : ℕ → Recorder → Store → Store
-storeAt n r s =
-    let u = lastFour (readingNow r) .0 in
-    let w = readingNow r .0 in
-    passed (capOf r) (halfOf r + 1) n u w (turned (capOf r) (halfOf r) u w (r .running .reverse) (r .running .level2) s)
-
 pub all-closed : (n : ℕ) (x : Mem) → x .recorder .clock .days ≤ capOf (x .recorder) → halfOf (x .recorder) < n
     → forTo closeAt (halfOf (x .recorder)) n x
     ≡ record { recorder = clockIs (n * halfHour) (x .recorder .clock .on) (daysAt n (x .recorder)) (ended (x .recorder)); store = storeAt n (x .recorder) (x .store) }
-unfolding closeOne passed
+unfolding closeOne passed gone
 all-closed n x few l =
     let r = x .recorder in
     let q = halfOf r in
@@ -107,20 +99,20 @@ all-closed n x few l =
     (turned (capOf r) q (lastFour (readingNow r) .0) (readingNow r .0) (r .running .reverse) (r .running .level2) (x .store)) (days-few (capOf r) q (r .clock .days) few)
     ∙ rw (days-on (capOf r) q k (r .clock .days) few, e)
 
--- the code's two ways
-pub still-here : (t : ℕ) (x : Mem) (y : Recorder) → halfOf (x .recorder) ≡ t / halfHour → y ≡ clockIs t true (x .recorder .clock .days) (x .recorder) → with x y ≡ advanceTo t x
+-- as the code goes about it
+pub still-here : (t : ℕ) (r y : Recorder) (v s m : List ℕ) → halfOf r ≡ t / halfHour → y ≡ clockIs t true (r .clock .days) r → mem y v s m ≡ advanceTo t (mem r v s m)
 unfolding advanceTo each
-still-here t x y e p = rw p (let z : t / halfHour - halfOf (x .recorder) ≡ 0 = omega arith in rw z)
+still-here t r y v s m e p = rw p (let z : t / halfHour - halfOf r ≡ 0 = omega arith in rw z)
 
-pub gone-on : (t q n days : ℕ) (r y z : Recorder) (v s m v₁ s₁ m₁ v₂ s₂ m₂ : List ℕ) → r .clock .days ≤ capOf r
-    → q ≡ halfOf r → n ≡ t / halfHour → q < n
-    → store v₁ s₁ m₁ ≡ turned (capOf r) q (lastFour (readingNow r) .0) (readingNow r .0) (r .running .reverse) (r .running .level2) (store v s m)
-    → store v₂ s₂ m₂ ≡ passed (capOf r) (q + 1) n (lastFour (readingNow r) .0) (readingNow r .0) (store v₁ s₁ m₁)
-    → days ≡ min (capOf r) (r .clock .days + (n / dayValues - q / dayValues))
-    → y ≡ ended r → z ≡ clockIs t true days y → mem z v₂ s₂ m₂ ≡ advanceTo t (mem r v s m)
+pub carried-on : (cap n value start : ℕ) (r : Recorder) (x y : Store) → cap ≡ capOf r → value ≡ lastFour (readingNow r) .0 → start ≡ readingNow r .0
+    → y ≡ gone cap (halfOf r) n value start (r .running .reverse) (r .running .level2) x → y ≡ storeAt n r x
+carried-on cap n value start r x y a b c e = e ∙ rw (a, b, c)
+
+pub gone-on : (t : ℕ) (r y : Recorder) (v s m v₁ s₁ m₁ : List ℕ) → Goes t (mem r v s m) → (halfOf r ≡ t / halfHour → ⊥)
+    → store v₁ s₁ m₁ ≡ storeAt (t / halfHour) r (store v s m) → y ≡ goneTo t r → mem y v₁ s₁ m₁ ≡ advanceTo t (mem r v s m)
 unfolding advanceTo
-gone-on t q n days r y z v s m v₁ s₁ m₁ v₂ s₂ m₂ few e f l a b c d p =
-    let all = all-closed (t / halfHour) (mem r v s m) few (rw (e, f) at l) in
-    ap {B = Mem} (λ (w : Recorder). record { recorder = w; store = store v₂ s₂ m₂ }) (p ∙ rw (c, d, e, f))
-    ∙ ap {B = Mem} (λ (w : Store). record { recorder = clockIs t true (daysAt (t / halfHour) r) (ended r); store = w }) (b ∙ rw (a, e, f))
-    ∙ ap (λ (w : Mem). with w (clockIs t true (w .recorder .clock .days) (w .recorder))) (sym all)
+gone-on t r y v s m v₁ s₁ m₁ g ne p f =
+    let l : halfOf r < t / halfHour = omega (arith, g .from) in
+    ap {B = Mem} (λ (w : Recorder). record { recorder = w; store = store v₁ s₁ m₁ }) f
+    ∙ ap {B = Mem} (λ (w : Store). record { recorder = goneTo t r; store = w }) p
+    ∙ ap (λ (w : Mem). with w (clockIs t true (w .recorder .clock .days) (w .recorder))) (sym (all-closed (t / halfHour) (mem r v s m) (g .good .days) l))

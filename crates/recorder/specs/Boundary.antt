@@ -1,6 +1,6 @@
 -- Boundaries (document 01, "Events", Clock): each boundary passed closes a half-hour at the present reading. The running one keeps its marks; those passed over have advance 0 and none.
 -- Current demand is the largest of the half-hours closed; where a boundary is midnight a day opens, in the oldest day's room when the store is full.
-use Prim.Native.Nat.{ℕ, _+_, _*_, _/_, _%_, min}
+use Prim.Native.Nat.{ℕ, _+_, _-_, _*_, _/_, _%_, min}
 use mathlib.Core.Bool.{true, false, cond}
 use lib.Dec.{eqb}
 use Rattle.laws.specs.Each.{forTo}
@@ -9,7 +9,7 @@ use Rattle.quantity.specs.Units.{lastFour, advanceOf, demandOf}
 use Rattle.registers.specs.Demand.{demandRaised}
 use Rattle.registers.specs.Time.{halfHour}
 use Rattle.store.specs.Class.{dayValues}
-use Rattle.store.specs.Store.{turned}
+use Rattle.store.specs.Store.{Store, turned, gone}
 use Rattle.recorder.specs.Recorder.{Recorder, Mem, with, capOf, halfOf, readingNow, withDemand, withRunning, clockIs}
 
 -- the demand of the running half-hour
@@ -43,3 +43,13 @@ unfoldable pub advanceTo : ℕ → Mem → Mem
 advanceTo t x =
     let y = forTo closeAt (halfOf (x .recorder)) (t / halfHour) x in
     with y (clockIs t true (y .recorder .clock .days) (y .recorder))
+
+-- the same at one go, where t lies in a later half-hour: the running one ends, and the others are passed over
+abbrev pub daysAt : ℕ → Recorder → ℕ
+daysAt n r = min (capOf r) (r .clock .days + (n / dayValues - halfOf r / dayValues))
+
+abbrev pub goneTo : ℕ → Recorder → Recorder
+goneTo t r = clockIs t true (daysAt (t / halfHour) r) (ended r)
+
+abbrev pub storeAt : ℕ → Recorder → Store → Store
+storeAt n r s = gone (capOf r) (halfOf r) n (lastFour (readingNow r) .0) (readingNow r .0) (r .running .reverse) (r .running .level2) s

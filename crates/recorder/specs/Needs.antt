@@ -1,15 +1,22 @@
 -- What the functions below the entries ask of a recorder and its store: each is proved to hold wherever they are called, and no entry asks anything.
-use Prim.Native.Nat.{ℕ, _<_, _≤_}
+use Prim.Native.Nat.{ℕ, _*_, _<_, _≤_}
 use Rattle.quantity.specs.Units.{totalRound}
-use Rattle.registers.specs.Time.{endTime}
+use Rattle.registers.specs.Time.{halfHour, endTime}
+use Rattle.store.specs.Class.{mostDays}
 use Rattle.store.specs.Store.{Fits}
-use Rattle.recorder.specs.Recorder.{Mem, capOf}
+use Rattle.recorder.specs.Recorder.{Recorder, Mem, capOf, halfOf}
 
 pub record Good (x : Mem) : Type 0 where
   pub time : x .recorder .clock .time < endTime
   pub days : x .recorder .clock .days ≤ capOf (x .recorder)
   pub total : x .recorder .energy .total .0 < totalRound
   pub fits : Fits (capOf (x .recorder)) (x .store)
+
+-- half-hour n is not before the running one
+pub record Later (n : ℕ) (r : Recorder) : Type 0 where
+  pub from : halfOf r ≤ n
+  pub days : r .clock .days ≤ mostDays
+  pub to : n * halfHour < endTime
 
 -- time can go on to t
 pub record Goes (t : ℕ) (x : Mem) : Type 0 where

@@ -2,21 +2,23 @@
 // A call hands back the recorder, the answer number and what it carries; a refusal leaves recorder and store as they were.
 ghost use mathlib.Core.Path.{_≡_};
 ghost use mathlib.Core.Bool.{true, not, cond};
-ghost use Prim.Native.Nat.{max, min, _<_, _≤_, _+_, _-_};
+ghost use Prim.Native.Nat.{max, min, _<_, _≤_, _+_, _-_, _/_};
 ghost use lib.Dec.{ltb};
 ghost use lib.ListN.{length};
 ghost use Rattle.laws.specs.Tests.{allTrue};
 ghost use Rattle.registers.specs.Energy.{Countable, rateOk};
 ghost use Rattle.registers.specs.Demand.{Resettable};
+ghost use Rattle.registers.specs.Time.{halfHour};
+ghost use Rattle.store.specs.Class.{mostDays};
 ghost use Rattle.store.specs.Store.{Fits, Words, store, flagAt, flagged};
 ghost use Rattle.recorder.specs.Recorder.{mem, capOf, halfOf, todayOf, clockIs};
 ghost use Rattle.recorder.specs.Range.{identityTests, clockTests, runningOk, inRange};
-ghost use Rattle.recorder.specs.Boundary.{ended, advanceTo};
+ghost use Rattle.recorder.specs.Boundary.{ended, daysAt, goneTo, storeAt, advanceTo};
 ghost use Rattle.recorder.specs.Effect.{counted, lastIs, rateIs, wasReset, accessed, reversed, firstFlagged, flagToday, flagFrom, powerLost, meterChanged, demandCleared, after};
 ghost use Rattle.recorder.specs.Answer.{inTime, mostUnits, unitsAfter, eventAnswer, answerWith, answerOf};
 ghost use Rattle.recorder.specs.Step.{done, step};
 ghost use Rattle.recorder.specs.SetUp.{given, setUpTests, setUpAnswer, fresh, blank, setUp};
-ghost use Rattle.recorder.specs.Needs.{Good, Goes};
+ghost use Rattle.recorder.specs.Needs.{Good, Later, Goes};
 use quantity::RegisterUnits;
 use quantity::WattHours;
 use registers::Demand;
@@ -306,5 +308,80 @@ impl Recorder {
         self.demand = raised;
         self.running = next;
         self
+    }
+
+    // ---- effects on the store
+
+    // The days that the class holds.
+    fn cap(self) -> u32
+        ensures { λ r. ⌜ (r ≡ capOf self) × (r ≤ mostDays) ⌝ }
+    {
+        let identity = self.identity;
+        let class = identity.class;
+        class.days()
+    }
+
+    // The days stored when time has gone on to a later half-hour.
+    fn days_at(self, to: u32) -> u32
+        requires { ⌜ Later to self ⌝ }
+        ensures { λ r. ⌜ r ≡ daysAt to self ⌝ }
+    {
+        let from = (self.clock.time / HALF_HOUR) as u32;
+        smaller(
+            self.cap(),
+            self.clock.days + (to / DAY_HALVES - from / DAY_HALVES),
+        )
+    }
+
+    // The recorder when time has gone on to t, in a later half-hour.
+    fn gone_to(self, t: u64) -> Recorder
+        requires { ⌜ Later (t / halfHour) self ⌝ }
+        ensures { λ r. ⌜ r ≡ goneTo t self ⌝ }
+    {
+        let days = self.days_at((t / HALF_HOUR) as u32);
+        self.ended().with_clock(t, true, days)
+    }
+
+    // The store when time has gone on to a later half-hour.
+    fn carry_to(self, to: u32, values: &mut [u16], starts: &mut [u32], marks: &mut [u64])
+        requires { ⌜ Good (mem self (now values) (now starts) (now marks)) ⌝ }
+        ensures { λ _. ⌜ store (now (values .exit)) (now (starts .exit)) (now (marks .exit))
+            ≡ storeAt to self (store (now (values .entry)) (now (starts .entry)) (now (marks .entry))) ⌝ }
+    {
+        let from = (self.clock.time / HALF_HOUR) as u32;
+        let energy = self.energy;
+        let running = self.running;
+        store::go_on(
+            self.cap(),
+            from,
+            to,
+            registers::value_of(energy.total),
+            registers::start_of(energy.total),
+            running.reverse,
+            running.level2,
+            values,
+            starts,
+            marks,
+        );
+    }
+
+    // Time goes on to t: each boundary passed closes a half-hour.
+    fn advance_to(
+        self,
+        t: u64,
+        values: &mut [u16],
+        starts: &mut [u32],
+        marks: &mut [u64],
+    ) -> Recorder
+        requires { ⌜ Goes t (mem self (now values) (now starts) (now marks)) ⌝ }
+        ensures { λ r. ⌜ mem r (now (values .exit)) (now (starts .exit)) (now (marks .exit))
+            ≡ advanceTo t (mem self (now (values .entry)) (now (starts .entry)) (now (marks .entry))) ⌝ }
+    {
+        let to = (t / HALF_HOUR) as u32;
+        if (self.clock.time / HALF_HOUR) as u32 == to {
+            return self.with_clock(t, true, self.clock.days);
+        }
+        self.carry_to(to, values, starts, marks);
+        self.gone_to(t)
     }
 }

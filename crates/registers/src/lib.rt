@@ -1,7 +1,7 @@
 // The recorder's registers by value: energy, which pulses are added to, and demand, which half-hours raise and a Reset clears.
 ghost use mathlib.Core.Path.{_≡_};
-ghost use Prim.Native.Nat.{_≤_};
-ghost use Rattle.quantity.specs.Units.{units};
+ghost use Prim.Native.Nat.{_<_, _≤_};
+ghost use Rattle.quantity.specs.Units.{totalRound, units, readingOf, lastFour};
 ghost use Rattle.registers.specs.Energy.{Countable, weightOk, rateOk, ratesOk, energyOk, pulsesOf, addedOf, mostAdded, unitsWith, energyCounted};
 ghost use Rattle.registers.specs.Demand.{Resettable, demandOk, larger, demandRaised, demandReset, noDemand};
 use quantity::CentiKilowatts;
@@ -64,6 +64,23 @@ fn rates_ok(rates: [WattHours; 8]) -> bool
         i += 1;
     }
     true
+}
+
+// What the store holds of a total: the value of a half-hour that ends at it, and the start of a day that begins at it.
+pub fn value_of(total: WattHours) -> u16
+    ensures { λ r. ⌜ r ≡ lastFour (readingOf total) .0 ⌝ }
+{
+    let reading = total.reading();
+    let value = reading.last_four();
+    value.0 as u16
+}
+
+pub fn start_of(total: WattHours) -> u32
+    requires { ⌜ total .0 < totalRound ⌝ }
+    ensures { λ r. ⌜ r ≡ readingOf total .0 ⌝ }
+{
+    let reading = total.reading();
+    reading.0 as u32
 }
 
 impl Energy {
