@@ -4,13 +4,13 @@ use Prim.Native.Nat.{ℕ, zero, suc, _+_, _-_, _*_, _/_, _%_, _<_, _≤_, max, m
 use mathlib.Core.Bool.{Bool, true, false, cond}
 use mathlib.Core.List.{List}
 use mathlib.Core.Path.{_≡_, refl, sym, ap, _∙_}
-use native.Mathlib.Nat.{mul-div-cancel}
+use native.Mathlib.Decide.{decLt}
 use native.Mathlib.Omega.{arith}
 use lib.Dec.{eqb, lit<}
 use borrow.Author.Tests.{eqb-true, eqb-false}
 use Rattle.laws.specs.Each.{each, forTo}
-use Rattle.laws.proofs.Split.{by-test}
-use Rattle.laws.proofs.Loop.{for-on, for-done}
+use Rattle.laws.proofs.Split.{by-test, by-dec}
+use Rattle.laws.proofs.Loop.{for-on}
 use Rattle.quantity.specs.declared.CentiKilowatts.{CentiKilowatts}
 use Rattle.quantity.specs.declared.RegisterUnits.{RegisterUnits}
 use Rattle.quantity.specs.Units.{units, centiKilowatts, lastFour, advanceOf, demandOf}
@@ -19,9 +19,10 @@ use Rattle.registers.specs.Demand.{larger, demandRaised}
 use Rattle.registers.specs.Time.{halfHour}
 use Rattle.store.specs.Class.{dayValues}
 use Rattle.store.specs.Store.{Store, store, turned, passAt, passed, gone}
+use Rattle.store.proofs.Laws.{gone-fits}
 use Rattle.recorder.specs.Recorder.{Recorder, Mem, mem, with, capOf, halfOf, readingNow, withDemand, withRunning, clockIs}
 use Rattle.recorder.specs.Boundary.{demandNow, ended, daysAfter, closeOne, closeAt, advanceTo, daysAt, goneTo, storeAt}
-use Rattle.recorder.specs.Needs.{Goes}
+use Rattle.recorder.specs.Needs.{Good, Goes}
 
 -- what the code makes of the running half-hour's end
 pub ended-done : (r : Recorder) (reading value before advance : RegisterUnits) (x : CentiKilowatts) (d : Demand)
@@ -99,10 +100,34 @@ all-closed n x few l =
     (turned (capOf r) q (lastFour (readingNow r) .0) (readingNow r .0) (r .running .reverse) (r .running .level2) (x .store)) (days-few (capOf r) q (r .clock .days) few)
     ∙ rw (days-on (capOf r) q k (r .clock .days) few, e)
 
+-- Clock(t) within the running half-hour, and past its end
+pub stayed : (t : ℕ) (x : Mem) → halfOf (x .recorder) ≡ t / halfHour → advanceTo t x ≡ with x (clockIs t true (x .recorder .clock .days) (x .recorder))
+unfolding advanceTo each
+stayed t x e = let z : t / halfHour - halfOf (x .recorder) ≡ 0 = omega arith in rw z
+
+pub went : (t : ℕ) (x : Mem) → x .recorder .clock .days ≤ capOf (x .recorder) → halfOf (x .recorder) < t / halfHour
+    → advanceTo t x ≡ record { recorder = goneTo t (x .recorder); store = storeAt (t / halfHour) (x .recorder) (x .store) }
+unfolding advanceTo
+went t x few l = ap (λ (y : Mem). with y (clockIs t true (y .recorder .clock .days) (y .recorder))) (all-closed (t / halfHour) x few l)
+
+-- so what is good stays good
+pub gone-good : (t : ℕ) (x : Mem) → Goes t x → Good (advanceTo t x)
+unfolding ended
+gone-good t x g =
+    let r = x .recorder in
+    by-dec (decLt (halfOf r) (t / halfHour))
+    (λ l. rw (went t x (g .good .days) l)
+    record {
+      time = g .to;
+      days = omega arith;
+      total = g .good .total;
+      fits = gone-fits (capOf r) (halfOf r) (t / halfHour) (lastFour (readingNow r) .0) (readingNow r .0) (r .running .reverse) (r .running .level2) (x .store) (storeAt (t / halfHour) r (x .store)) refl (g .good .fits);
+    })
+    (λ n. rw (stayed t x (omega (arith, g .from))) record { time = g .to; days = g .good .days; total = g .good .total; fits = g .good .fits })
+
 -- as the code goes about it
 pub still-here : (t : ℕ) (r y : Recorder) (v s m : List ℕ) → halfOf r ≡ t / halfHour → y ≡ clockIs t true (r .clock .days) r → mem y v s m ≡ advanceTo t (mem r v s m)
-unfolding advanceTo each
-still-here t r y v s m e p = rw p (let z : t / halfHour - halfOf r ≡ 0 = omega arith in rw z)
+still-here t r y v s m e p = rw p (sym (stayed t (mem r v s m) e))
 
 pub carried-on : (cap n value start : ℕ) (r : Recorder) (x y : Store) → cap ≡ capOf r → value ≡ lastFour (readingNow r) .0 → start ≡ readingNow r .0
     → y ≡ gone cap (halfOf r) n value start (r .running .reverse) (r .running .level2) x → y ≡ storeAt n r x
@@ -110,9 +135,7 @@ carried-on cap n value start r x y a b c e = e ∙ rw (a, b, c)
 
 pub gone-on : (t : ℕ) (r y : Recorder) (v s m v₁ s₁ m₁ : List ℕ) → Goes t (mem r v s m) → (halfOf r ≡ t / halfHour → ⊥)
     → store v₁ s₁ m₁ ≡ storeAt (t / halfHour) r (store v s m) → y ≡ goneTo t r → mem y v₁ s₁ m₁ ≡ advanceTo t (mem r v s m)
-unfolding advanceTo
 gone-on t r y v s m v₁ s₁ m₁ g ne p f =
-    let l : halfOf r < t / halfHour = omega (arith, g .from) in
     ap {B = Mem} (λ (w : Recorder). record { recorder = w; store = store v₁ s₁ m₁ }) f
     ∙ ap {B = Mem} (λ (w : Store). record { recorder = goneTo t r; store = w }) p
-    ∙ ap (λ (w : Mem). with w (clockIs t true (w .recorder .clock .days) (w .recorder))) (sym (all-closed (t / halfHour) (mem r v s m) (g .good .days) l))
+    ∙ sym (went t (mem r v s m) (g .good .days) (omega (arith, g .from)))

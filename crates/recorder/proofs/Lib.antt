@@ -2,4 +2,5 @@
 pub mod Ranges
 pub mod Answers
 pub mod Boundaries
+pub mod Effects
 pub mod Starred

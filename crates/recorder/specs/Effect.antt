@@ -57,13 +57,23 @@ flagFrom from flag x =
       store = store (x .store .values) (x .store .starts) (flagged (capOf r) (firstFlagged r from) (todayOf r + 1) flag (x .store .marks));
     }
 
+-- On(t), Meter(c) and Reset
+abbrev pub turnedOn : ℕ → Mem → Mem
+turnedOn t x = flagFrom (todayOf (x .recorder)) powerLost (advanceTo t x)
+
+abbrev pub metered : ℕ → Mem → Mem
+metered c x = flagToday meterChanged (with x (accessed (lastIs c (x .recorder))))
+
+abbrev pub cleared : Mem → Mem
+cleared x = flagToday demandCleared (with x (accessed (wasReset (x .recorder))))
+
 unfoldable pub after : Mem → Event → Mem
 after x (Count c) = with x (counted c (x .recorder))
 after x (Clock t) = advanceTo t x
 after x Off = with x (switchedOff (x .recorder))
-after x (On t) = flagFrom (todayOf (x .recorder)) powerLost (advanceTo t x)
+after x (On t) = turnedOn t x
 after x Access = with x (accessed (x .recorder))
-after x (Meter c) = flagToday meterChanged (with x (accessed (lastIs c (x .recorder))))
-after x Reset = flagToday demandCleared (with x (accessed (wasReset (x .recorder))))
+after x (Meter c) = metered c x
+after x Reset = cleared x
 after x (Rate n) = with x (rateIs n (x .recorder))
 after x Reverse = with x (reversed (x .recorder))

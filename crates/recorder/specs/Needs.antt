@@ -1,9 +1,11 @@
 -- What the functions below the entries ask of a recorder and its store: each is proved to hold wherever they are called, and no entry asks anything.
 use Prim.Native.Nat.{ℕ, _*_, _<_, _≤_}
+use mathlib.Core.List.{List}
 use Rattle.quantity.specs.Units.{totalRound}
+use Rattle.registers.specs.Demand.{countRound}
 use Rattle.registers.specs.Time.{halfHour, endTime}
 use Rattle.store.specs.Class.{mostDays}
-use Rattle.store.specs.Store.{Fits}
+use Rattle.store.specs.Store.{Fits, Words}
 use Rattle.recorder.specs.Recorder.{Recorder, Mem, capOf, halfOf}
 
 pub record Good (x : Mem) : Type 0 where
@@ -23,3 +25,17 @@ pub record Goes (t : ℕ) (x : Mem) : Type 0 where
   pub good : Good x
   pub from : x .recorder .clock .time ≤ t
   pub to : t < endTime
+
+-- a Reset
+pub record Resets (r : Recorder) : Type 0 where
+  pub time : r .clock .time < endTime
+  pub count : r .demand .count < countRound
+
+pub record Clears (x : Mem) : Type 0 where
+  pub good : Good x
+  pub count : x .recorder .demand .count < countRound
+
+-- flags
+pub record Flaggable (r : Recorder) (m : List ℕ) : Type 0 where
+  pub time : r .clock .time < endTime
+  pub words : Words (capOf r) m

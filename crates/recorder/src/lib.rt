@@ -7,18 +7,17 @@ ghost use lib.Dec.{ltb};
 ghost use lib.ListN.{length};
 ghost use Rattle.laws.specs.Tests.{allTrue};
 ghost use Rattle.registers.specs.Energy.{Countable, rateOk};
-ghost use Rattle.registers.specs.Demand.{Resettable};
-ghost use Rattle.registers.specs.Time.{halfHour};
+ghost use Rattle.registers.specs.Time.{halfHour, endDay, endTime};
 ghost use Rattle.store.specs.Class.{mostDays};
 ghost use Rattle.store.specs.Store.{Fits, Words, store, flagAt, flagged};
 ghost use Rattle.recorder.specs.Recorder.{mem, capOf, halfOf, todayOf, clockIs};
 ghost use Rattle.recorder.specs.Range.{identityTests, clockTests, runningOk, inRange};
 ghost use Rattle.recorder.specs.Boundary.{ended, daysAt, goneTo, storeAt, advanceTo};
-ghost use Rattle.recorder.specs.Effect.{counted, lastIs, rateIs, wasReset, accessed, reversed, firstFlagged, flagToday, flagFrom, powerLost, meterChanged, demandCleared, after};
+ghost use Rattle.recorder.specs.Effect.{counted, lastIs, rateIs, wasReset, accessed, reversed, firstFlagged, turnedOn, metered, cleared, after};
 ghost use Rattle.recorder.specs.Answer.{inTime, mostUnits, unitsAfter, eventAnswer, answerWith, answerOf};
 ghost use Rattle.recorder.specs.Step.{done, step};
 ghost use Rattle.recorder.specs.SetUp.{given, setUpTests, setUpAnswer, fresh, blank, setUp};
-ghost use Rattle.recorder.specs.Needs.{Good, Later, Goes};
+ghost use Rattle.recorder.specs.Needs.{Good, Later, Goes, Resets, Clears, Flaggable};
 use quantity::RegisterUnits;
 use quantity::WattHours;
 use registers::Demand;
@@ -278,13 +277,19 @@ impl Recorder {
         self
     }
 
+    fn today(self) -> u32
+        requires { ⌜ self .clock .time < endTime ⌝ }
+        ensures { λ r. ⌜ (r ≡ todayOf self) × (r < endDay) ⌝ }
+    {
+        (self.clock.time / DAY) as u32
+    }
+
     fn was_reset(mut self) -> Recorder
-        requires { ⌜ Resettable (todayOf self) (self .demand) ⌝ }
+        requires { ⌜ Resets self ⌝ }
         ensures { λ r. ⌜ r ≡ wasReset self ⌝ }
     {
         let demand = self.demand;
-        let today = (self.clock.time / DAY) as u32;
-        self.demand = demand.reset_on(today);
+        self.demand = demand.reset_on(self.today());
         self
     }
 
@@ -383,5 +388,57 @@ impl Recorder {
         }
         self.carry_to(to, values, starts, marks);
         self.gone_to(t)
+    }
+
+    // Today gets a flag.
+    fn flag_today(self, flag: u64, marks: &mut [u64])
+        requires { ⌜ Flaggable self (now marks) ⌝ }
+        ensures { λ _. ⌜ now (marks .exit) ≡ flagAt (capOf self) flag (todayOf self) (now (marks .entry)) ⌝ }
+    {
+        store::flag_day(self.cap(), self.today(), flag, marks);
+    }
+
+    // Every stored day from one on to today gets it.
+    fn flag_from(self, from: u32, flag: u64, marks: &mut [u64])
+        requires { ⌜ Flaggable self (now marks) ⌝ }
+        ensures { λ _. ⌜ now (marks .exit) ≡ flagged (capOf self) (firstFlagged self from) (todayOf self + 1) flag (now (marks .entry)) ⌝ }
+    {
+        let end = self.today() + 1;
+        let first = larger(from, less(end, self.clock.days));
+        store::flag_days(self.cap(), first, end, flag, marks);
+    }
+
+    // On(t).
+    fn turn_on(self, t: u64, values: &mut [u16], starts: &mut [u32], marks: &mut [u64]) -> Recorder
+        requires { ⌜ Goes t (mem self (now values) (now starts) (now marks)) ⌝ }
+        ensures { λ r. ⌜ mem r (now (values .exit)) (now (starts .exit)) (now (marks .exit))
+            ≡ turnedOn t (mem self (now (values .entry)) (now (starts .entry)) (now (marks .entry))) ⌝ }
+    {
+        let off = self.today();
+        let next = self.advance_to(t, values, starts, marks);
+        next.flag_from(off, POWER_LOST, marks);
+        next
+    }
+
+    // Meter(c).
+    fn metered(self, c: u32, values: &mut [u16], starts: &mut [u32], marks: &mut [u64]) -> Recorder
+        requires { ⌜ Good (mem self (now values) (now starts) (now marks)) ⌝ }
+        ensures { λ r. ⌜ mem r (now (values .exit)) (now (starts .exit)) (now (marks .exit))
+            ≡ metered c (mem self (now (values .entry)) (now (starts .entry)) (now (marks .entry))) ⌝ }
+    {
+        let next = self.last_is(c).accessed();
+        self.flag_today(METER_CHANGED, marks);
+        next
+    }
+
+    // Reset.
+    fn cleared(self, values: &mut [u16], starts: &mut [u32], marks: &mut [u64]) -> Recorder
+        requires { ⌜ Clears (mem self (now values) (now starts) (now marks)) ⌝ }
+        ensures { λ r. ⌜ mem r (now (values .exit)) (now (starts .exit)) (now (marks .exit))
+            ≡ cleared (mem self (now (values .entry)) (now (starts .entry)) (now (marks .entry))) ⌝ }
+    {
+        let next = self.was_reset().accessed();
+        self.flag_today(DEMAND_RESET, marks);
+        next
     }
 }
