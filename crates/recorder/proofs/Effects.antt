@@ -3,10 +3,14 @@
 use Prim.Native.Nat.{ℕ, _+_}
 use mathlib.Core.List.{List}
 use mathlib.Core.Path.{_≡_, refl, sym, ap, _∙_}
+use borrow.Author.Tests.{ne-eqb}
 use Rattle.store.specs.Store.{Words, store, flagAt, flagged}
-use Rattle.recorder.specs.Recorder.{Recorder, Mem, mem, capOf, todayOf}
+use Rattle.recorder.specs.declared.Stepped.{Stepped}
+use Rattle.recorder.specs.Recorder.{Recorder, Mem, Event, mem, capOf, todayOf}
 use Rattle.recorder.specs.Boundary.{advanceTo}
-use Rattle.recorder.specs.Effect.{powerLost, meterChanged, demandCleared, lastIs, wasReset, accessed, firstFlagged, flagToday, flagFrom, turnedOn, metered, cleared}
+use Rattle.recorder.specs.Effect.{powerLost, meterChanged, demandCleared, lastIs, wasReset, accessed, firstFlagged, flagToday, flagFrom, turnedOn, metered, cleared, after}
+use Rattle.recorder.specs.Answer.{answerOf}
+use Rattle.recorder.specs.Step.{Done, done, step}
 use Rattle.recorder.specs.Needs.{Good, Goes, Flaggable}
 use Rattle.recorder.proofs.Boundaries.{gone-good}
 
@@ -30,3 +34,15 @@ pub on-done : (t off : ℕ) (r y : Recorder) (v s m v₁ s₁ m₁ l : List ℕ)
 unfolding flagFrom
 on-done t off r y v s m v₁ s₁ m₁ l o p e =
     rw (e, o) (ap (λ (w : Mem). flagFrom (todayOf r) powerLost w) p)
+
+-- a step, refused and done
+pub step-refused : (r : Recorder) (e : Event) (a : ℕ) (v s m : List ℕ) → a ≡ answerOf (mem r v s m) e → (a ≡ 0 → ⊥)
+    → done (record { recorder = r; answer = a; carried = 0 }) v s m ≡ step (mem r v s m) e
+unfolding step
+step-refused r e a v s m p ne = rw (← p, ne-eqb a 0 ne)
+
+pub step-done : (r y : Recorder) (e : Event) (a : ℕ) (v s m v₁ s₁ m₁ : List ℕ) → a ≡ answerOf (mem r v s m) e → a ≡ 0 → mem y v₁ s₁ m₁ ≡ after (mem r v s m) e
+    → done (record { recorder = y; answer = 0; carried = 0 }) v₁ s₁ m₁ ≡ step (mem r v s m) e
+unfolding step
+step-done r y e a v s m v₁ s₁ m₁ p z q =
+    ap {B = Done} (λ (w : Mem). record { answer = 0; carried = 0; after = w }) q ∙ rw (← p, z)

@@ -3,4 +3,5 @@ pub mod Ranges
 pub mod Answers
 pub mod Boundaries
 pub mod Effects
+pub mod Setting
 pub mod Starred

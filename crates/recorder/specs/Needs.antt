@@ -4,8 +4,9 @@ use mathlib.Core.List.{List}
 use Rattle.quantity.specs.Units.{totalRound}
 use Rattle.registers.specs.Demand.{countRound}
 use Rattle.registers.specs.Time.{halfHour, endTime}
-use Rattle.store.specs.Class.{mostDays}
-use Rattle.store.specs.Store.{Fits, Words}
+use Rattle.store.specs.Class.{daysOf, mostDays}
+use Rattle.store.specs.Store.{Store, Fits, Words}
+use Rattle.recorder.specs.declared.SetUp.{SetUp}
 use Rattle.recorder.specs.Recorder.{Recorder, Mem, capOf, halfOf}
 
 pub record Good (x : Mem) : Type 0 where
@@ -39,3 +40,9 @@ pub record Clears (x : Mem) : Type 0 where
 pub record Flaggable (r : Recorder) (m : List ℕ) : Type 0 where
   pub time : r .clock .time < endTime
   pub words : Words (capOf r) m
+
+-- a set-up that is accepted
+pub record Begins (s : SetUp) (x : Store) : Type 0 where
+  pub time : s .time < endTime
+  pub total : s .total .0 < totalRound
+  pub fits : Fits (daysOf (s .class)) x

@@ -30,13 +30,17 @@ abbrev pub setUpTests : SetUp → List Bool
 setUpTests s =
     idOk (s .identifier) ∷ leb 1 (daysOf (s .class)) ∷ weightOk (s .weight) ∷ ltb (s .time) endTime ∷ ltb (s .total .0) totalRound ∷ []
 
-abbrev pub setUpChecks : SetUp → Store → List Check
-setUpChecks s x =
+-- with a store of these lengths
+abbrev pub setUpChecks : SetUp → ℕ → ℕ → ℕ → List Check
+setUpChecks s values starts marks =
     check (not (allTrue (setUpTests s))) 6
-    ∷ check (not (rightLengths (daysOf (s .class)) (length (x .values)) (length (x .starts)) (length (x .marks)))) 4 ∷ []
+    ∷ check (not (rightLengths (daysOf (s .class)) values starts marks)) 4 ∷ []
 
-unfoldable pub setUpAnswer : SetUp → Store → ℕ
-setUpAnswer s x = firstFailing (setUpChecks s x)
+unfoldable pub setUpWith : SetUp → ℕ → ℕ → ℕ → ℕ
+setUpWith s values starts marks = firstFailing (setUpChecks s values starts marks)
+
+abbrev pub setUpAnswer : SetUp → Store → ℕ
+setUpAnswer s x = setUpWith s (length (x .values)) (length (x .starts)) (length (x .marks))
 
 unfoldable pub fresh : SetUp → Recorder
 fresh s =
@@ -59,10 +63,13 @@ blank =
       running = record { base = units 0; reverse = false; level2 = false };
     }
 
-unfoldable pub made : SetUp → Mem
-made s =
+abbrev pub storeBegun : SetUp → Store
+storeBegun s =
     let reading = readingOf (s .total) in
-    record { recorder = fresh s; store = begun (daysOf (s .class)) (s .time / halfHour) (lastFour reading .0) (reading .0) }
+    begun (daysOf (s .class)) (s .time / halfHour) (lastFour reading .0) (reading .0)
+
+unfoldable pub made : SetUp → Mem
+made s = record { recorder = fresh s; store = storeBegun s }
 
 unfoldable pub setUp : SetUp → Store → Done
 setUp s x =

@@ -13,11 +13,11 @@ ghost use Rattle.store.specs.Store.{Fits, Words, store, flagAt, flagged};
 ghost use Rattle.recorder.specs.Recorder.{mem, capOf, halfOf, todayOf, clockIs};
 ghost use Rattle.recorder.specs.Range.{identityTests, clockTests, runningOk, inRange};
 ghost use Rattle.recorder.specs.Boundary.{ended, daysAt, goneTo, storeAt, advanceTo};
-ghost use Rattle.recorder.specs.Effect.{counted, lastIs, rateIs, wasReset, accessed, reversed, firstFlagged, turnedOn, metered, cleared, after};
+ghost use Rattle.recorder.specs.Effect.{counted, lastIs, rateIs, wasReset, switchedOff, accessed, reversed, firstFlagged, turnedOn, metered, cleared, after};
 ghost use Rattle.recorder.specs.Answer.{inTime, mostUnits, unitsAfter, eventAnswer, answerWith, answerOf};
 ghost use Rattle.recorder.specs.Step.{done, step};
-ghost use Rattle.recorder.specs.SetUp.{given, setUpTests, setUpAnswer, fresh, blank, setUp};
-ghost use Rattle.recorder.specs.Needs.{Good, Later, Goes, Resets, Clears, Flaggable};
+ghost use Rattle.recorder.specs.SetUp.{given, setUpTests, setUpWith, fresh, storeBegun, blank, setUp};
+ghost use Rattle.recorder.specs.Needs.{Begins, Good, Later, Goes, Resets, Clears, Flaggable};
 use quantity::RegisterUnits;
 use quantity::WattHours;
 use registers::Demand;
@@ -239,6 +239,13 @@ impl Recorder {
         self
     }
 
+    fn switched_off(mut self) -> Recorder
+        ensures { λ r. ⌜ r ≡ switchedOff self ⌝ }
+    {
+        self.clock.on = false;
+        self
+    }
+
     fn accessed(mut self) -> Recorder
         ensures { λ r. ⌜ r ≡ accessed self ⌝ }
     {
@@ -440,5 +447,202 @@ impl Recorder {
         let next = self.was_reset().accessed();
         self.flag_today(DEMAND_RESET, marks);
         next
+    }
+
+    // What an accepted event does.
+    fn applied(
+        self,
+        event: Event,
+        values: &mut [u16],
+        starts: &mut [u32],
+        marks: &mut [u64],
+    ) -> Recorder
+        requires { ⌜ answerOf (mem self (now values) (now starts) (now marks)) event ≡ 0 ⌝ }
+        ensures { λ r. ⌜ mem r (now (values .exit)) (now (starts .exit)) (now (marks .exit))
+            ≡ after (mem self (now (values .entry)) (now (starts .entry)) (now (marks .entry))) event ⌝ }
+    {
+        match event {
+            Event::Count(c) => self.counted(c),
+            Event::Clock(t) => self.advance_to(t, values, starts, marks),
+            Event::Off => self.switched_off(),
+            Event::On(t) => self.turn_on(t, values, starts, marks),
+            Event::Access => self.accessed(),
+            Event::Meter(c) => self.metered(c, values, starts, marks),
+            Event::Reset => self.cleared(values, starts, marks),
+            Event::Rate(n) => self.rate_is(n),
+            Event::Reverse => self.reversed(),
+        }
+    }
+
+    // ---- the entries
+
+    // The recorder after an event, with the answer.
+    pub fn step(
+        self,
+        event: Event,
+        values: &mut [u16],
+        starts: &mut [u32],
+        marks: &mut [u64],
+    ) -> Stepped
+        ensures { λ r. ⌜ done r (now (values .exit)) (now (starts .exit)) (now (marks .exit))
+            ≡ step (mem self (now (values .entry)) (now (starts .entry)) (now (marks .entry))) event ⌝ }
+    {
+        let answer = self.answer(event, values.len(), starts.len(), marks.len());
+        if answer != 0 {
+            return Stepped {
+                recorder: self,
+                answer: answer,
+                carried: 0,
+            };
+        }
+        let next = self.applied(event, values, starts, marks);
+        Stepped {
+            recorder: next,
+            answer: 0,
+            carried: 0,
+        }
+    }
+
+    // A recorder set up, with the answer.
+    pub fn set_up(
+        identifier: [u8; 12],
+        class: Class,
+        weight: WattHours,
+        time: u64,
+        total: WattHours,
+        counter: u32,
+        values: &mut [u16],
+        starts: &mut [u32],
+        marks: &mut [u64],
+    ) -> Stepped
+        ensures { λ r. ⌜ done r (now (values .exit)) (now (starts .exit)) (now (marks .exit))
+            ≡ setUp (given identifier class weight time total counter) (store (now (values .entry)) (now (starts .entry)) (now (marks .entry))) ⌝ }
+    {
+        let given = SetUp {
+            identifier: identifier,
+            class: class,
+            weight: weight,
+            time: time,
+            total: total,
+            counter: counter,
+        };
+        let answer = given.answer(values.len(), starts.len(), marks.len());
+        if answer != 0 {
+            return Stepped {
+                recorder: Recorder::blank(),
+                answer: answer,
+                carried: 0,
+            };
+        }
+        given.begin(values, starts, marks);
+        Stepped {
+            recorder: given.fresh(),
+            answer: 0,
+            carried: 0,
+        }
+    }
+
+    // The recorder that a refused set-up hands back: no class, and zeros.
+    pub fn blank() -> Recorder
+        ensures { λ r. ⌜ r ≡ blank ⌝ }
+    {
+        Recorder {
+            identity: Identity {
+                identifier: [0; 12],
+                class: Class::Blank,
+                weight: WattHours(0),
+            },
+            clock: Present {
+                time: 0,
+                on: false,
+                days: 0,
+            },
+            energy: Energy {
+                total: WattHours(0),
+                last: 0,
+                rate: 0,
+                rates: [WattHours(0); 8],
+            },
+            demand: Demand::none(),
+            running: Running {
+                base: RegisterUnits(0),
+                reverse: false,
+                level2: false,
+            },
+        }
+    }
+}
+
+impl SetUp {
+    fn in_range(self) -> bool
+        ensures { λ r. ⌜ r ≡ allTrue (setUpTests self) ⌝ }
+    {
+        let id = self.identifier;
+        let class = self.class;
+        identifier::valid(id)
+            & (1 <= class.days())
+            & registers::weight_ok(self.weight)
+            & (self.time < END_TIME)
+            & (self.total.0 < quantity::TOTAL_ROUND)
+    }
+
+    fn answer(self, values: usize, starts: usize, marks: usize) -> u32
+        ensures { λ r. ⌜ r ≡ setUpWith self values starts marks ⌝ }
+    {
+        let class = self.class;
+        if !self.in_range() {
+            return 6;
+        }
+        if !class.fits(values, starts, marks) {
+            return 4;
+        }
+        0
+    }
+
+    fn fresh(self) -> Recorder
+        ensures { λ r. ⌜ r ≡ fresh self ⌝ }
+    {
+        let id = self.identifier;
+        let class = self.class;
+        let weight = self.weight;
+        let total = self.total;
+        let base = total.reading();
+        Recorder {
+            identity: Identity {
+                identifier: id,
+                class: class,
+                weight: weight,
+            },
+            clock: Present {
+                time: self.time,
+                on: true,
+                days: 1,
+            },
+            energy: Energy {
+                total: total,
+                last: self.counter,
+                rate: 1,
+                rates: [WattHours(0); 8],
+            },
+            demand: Demand::none(),
+            running: Running {
+                base: base,
+                reverse: false,
+                level2: false,
+            },
+        }
+    }
+
+    // The store as it begins.
+    fn begin(self, values: &mut [u16], starts: &mut [u32], marks: &mut [u64])
+        requires { ⌜ Begins self (store (now values) (now starts) (now marks)) ⌝ }
+        ensures { λ _. ⌜ store (now (values .exit)) (now (starts .exit)) (now (marks .exit)) ≡ storeBegun self ⌝ }
+    {
+        let class = self.class;
+        let total = self.total;
+        let q = (self.time / HALF_HOUR) as u32;
+        let value = registers::value_of(total);
+        let start = registers::start_of(total);
+        store::begin(class.days(), q, value, start, values, starts, marks);
     }
 }
