@@ -1,0 +1,46 @@
+use Rattle.recorder.proofs.Setting.{store-begun}
+use borrow.Author.Needs.{needs}
+use borrow.Author.Needs.{needs}
+use Rattle.recorder.proofs.SetUp.begin.Statement.{statement}
+use Rattle.recorder.proofs.SetUp.begin.Tie as tie
+
+cast-q : tie.Need-cast-q
+cast-q c = search needs
+
+value-of-requires : tie.Need-value-of-requires
+value-of-requires c κs = search needs
+
+start-of-requires : tie.Need-start-of-requires
+start-of-requires c κs = search needs
+
+days-requires : tie.Need-days-requires
+days-requires c κs = search needs
+
+begin-requires : tie.Need-begin-requires
+begin-requires c κs = search needs
+
+same-length : tie.Need-same-length
+same-length c = search needs
+
+same-length-2 : tie.Need-same-length-2
+same-length-2 c = search needs
+
+same-length-3 : tie.Need-same-length-3
+same-length-3 c = search needs
+
+returns : tie.Need-returns
+returns c = search store-begun
+
+pub begin-spec : {M : Type 1} → statement M
+begin-spec =
+    tie.close
+    (tie.spec
+    cast-q
+    value-of-requires
+    start-of-requires
+    days-requires
+    begin-requires
+    same-length
+    same-length-2
+    same-length-3
+    returns)
