@@ -1,0 +1,4 @@
+-- Paper: what happened, without end. Written: what each event writes on it. Meaning: what is said of a list of events.
+pub mod Paper
+pub mod Written
+pub mod Meaning
