@@ -16,16 +16,14 @@ use Rattle.quantity.specs.declared.RegisterUnits.{RegisterUnits}
 use Rattle.quantity.specs.declared.WattHours.{WattHours}
 use Rattle.quantity.specs.declared.CentiKilowatts.{CentiKilowatts}
 use Rattle.quantity.specs.Units.{lastFour, advance}
-use Rattle.store.specs.Class.{daysOf}
 use Rattle.store.specs.Store.{Store, Fits, closed, opened, turned}
 use Rattle.store.proofs.Laws.{closed-fits, turned-fits}
 use Rattle.recorder.specs.declared.SetUp.{SetUp}
-use Rattle.recorder.specs.declared.Identity.{Identity}
 use Rattle.recorder.specs.declared.Recorder.{Recorder}
 use Rattle.recorder.specs.Recorder.{Mem, readingNow}
 use Rattle.recorder.specs.Boundary.{demandNow, daysAfter, ended, closeOne}
 use Rattle.assurance.specs.Paper.{Counts, Tape, totalAt, unitsOf, flagsOf, largest, peakOf}
-use Rattle.assurance.proofs.Kept.{Stored, EnergyKept, DemandKept, RunningKept, ClockKept, ValuesKept, MarksKept, StoreKept, KeptAt, capOf, firstDay, reached}
+use Rattle.assurance.proofs.Kept.{Stored, EnergyKept, DemandKept, RunningKept, ClockKept, ValuesKept, MarksKept, StoreKept, KeptAt, capOf, firstDay, reached, cap-is}
 use Rattle.assurance.proofs.Rooms.{closed-values, closed-marks, closed-flags, opened-values, opened-marks, opened-flags, new-values, new-marks, new-flags}
 
 -- the difference modulo 10,000 is the units passed, if they are at most 9,999
@@ -119,9 +117,6 @@ module _ (s : SetUp) (p : Tape) (q : ℕ) (x : Mem) (g : KeptAt s p q x) where
   abbrev r : Recorder
   r = x .recorder
 
-  cap-is : daysOf (r .identity .class) ≡ capOf s
-  cap-is = ap (λ (i : Identity). daysOf (i .class)) (g .identity)
-
   value-is : lastFour (readingNow r) .0 ≡ totalAt s (p .counts) (suc q) / 10 % 10000
   value-is = omega (arith, g .energy .total)
 
@@ -183,12 +178,12 @@ module _ (s : SetUp) (p : Tape) (q : ℕ) (x : Mem) (g : KeptAt s p q x) where
   unfolding closeOne ended
   close-on = record {
     identity = g .identity;
-    clock = record { begun = omega (arith, g .clock .begun); here = omega (arith, g .clock .here); days = rw (cap-is, g .clock .here) days-on };
+    clock = record { begun = omega (arith, g .clock .begun); here = omega (arith, g .clock .here); days = rw (cap-is s p q x g, g .clock .here) days-on };
     energy = energy-on;
     demand = demand-on;
     running = running-on;
     no-flags = λ d l. g .no-flags d (omega arith);
     store =
-        rw (cap-is, g .clock .here)
+        rw (cap-is s p q x g, g .clock .here)
         (turned-kept s p q (x .store) _ _ _ _ (g .store) value-is reading-is (g .running .reverse) (g .running .level2) (g .no-flags));
   }

@@ -1,9 +1,10 @@
 -- The invariant: as half-hour q runs, the registers are the paper's totals run round, and each day that is stored is the paper's, in its room.
 -- Assumes nothing.
 use Prim.Native.Nat.{ℕ, suc, _+_, _-_, _*_, _/_, _%_, _<_, _≤_, min}
-use mathlib.Core.Path.{_≡_}
+use mathlib.Core.Path.{_≡_, ap}
 use mathlib.Core.Bool.{Bool, true, false}
 use mathlib.Core.List.{List}
+use native.Mathlib.Omega.{arith}
 use lib.ListN.{length, getD}
 use Rattle.laws.specs.Bits.{packBits}
 use Rattle.quantity.specs.declared.RegisterUnits.{RegisterUnits}
@@ -126,3 +127,11 @@ pub record Kept (s : SetUp) (p : Paper) (x : Mem) : Type 0 where
   pub rate : x .recorder .energy .rate ≡ p .rate
   pub century : p .time < 3155760000
   pub at : KeptAt s (p .tape) (now p) x
+
+-- the recorder's class and its day
+module _ (s : SetUp) (p : Tape) (q : ℕ) (x : Mem) (g : KeptAt s p q x) where
+  pub cap-is : daysOf (x .recorder .identity .class) ≡ capOf s
+  cap-is = ap (λ (i : Identity). daysOf (i .class)) (g .identity)
+
+  pub day-is : x .recorder .clock .time / 86400 ≡ q / 48
+  day-is = omega (arith, g .clock .here)

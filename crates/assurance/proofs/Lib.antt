@@ -3,4 +3,9 @@ pub mod Rooms
 pub mod Close
 pub mod Pass
 pub mod Counting
+pub mod Flags
 pub mod Marking
+pub mod Outage
+pub mod Start
+pub mod Answer
+pub mod Run

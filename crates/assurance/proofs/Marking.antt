@@ -10,22 +10,20 @@ use lib.Bits.{bitOr}
 use lib.Dec.{eqb}
 use lib.ListN.{length, getD}
 use borrow.Author.Tests.{eq-eqb, ne-eqb}
-use Rattle.laws.specs.Bits.{bit}
 use Rattle.laws.proofs.Ring.{ring-apart}
 use Rattle.laws.proofs.Split.{by-dec}
 use Rattle.quantity.specs.declared.RegisterUnits.{RegisterUnits}
 use Rattle.quantity.specs.declared.CentiKilowatts.{CentiKilowatts}
-use Rattle.store.specs.Class.{daysOf}
 use Rattle.store.specs.Store.{Store, store, Fits, flagAt}
 use Rattle.recorder.specs.declared.SetUp.{SetUp}
-use Rattle.recorder.specs.declared.Identity.{Identity}
 use Rattle.recorder.specs.declared.Recorder.{Recorder}
 use Rattle.recorder.specs.Recorder.{Mem, with}
 use Rattle.recorder.specs.Effect.{flagToday, switchedOff, lastIs, rateIs, wasReset}
 use Rattle.recorder.specs.Effect as effect
 use Rattle.assurance.specs.Paper.{Flags, Tape, unitsOf, flagsOf, largest, peakOf}
 use Rattle.assurance.specs.Written.{accessed, reversed, metered, resetOn, markAt}
-use Rattle.assurance.proofs.Kept.{Stored, EnergyKept, DemandKept, RunningKept, ClockKept, StoreKept, KeptAt, capOf, reached}
+use Rattle.assurance.proofs.Flags.{with-meter, with-reset}
+use Rattle.assurance.proofs.Kept.{Stored, EnergyKept, DemandKept, RunningKept, ClockKept, StoreKept, KeptAt, capOf, reached, cap-is, day-is}
 use Rattle.assurance.proofs.Rooms.{same-marks, flagged-marks, flagged-other, flagged-here, flagged-long}
 
 pub or-none : (a b : Bool) → b ≡ false → (a || b) ≡ a
@@ -187,14 +185,8 @@ module _ (s : SetUp) (p : Tape) (q flag : ℕ) (x : Mem) (g : KeptAt s p q x) (f
     demand = g .demand;
     running = g .running;
     no-flags = λ d l. other d (omega arith) ∙ g .no-flags d l;
-    store = rw (cap-is, day-is) store-flag;
+    store = rw (cap-is s p q x g, day-is s p q x g) store-flag;
   }
-    where
-      cap-is : daysOf (x .recorder .identity .class) ≡ capOf s
-      cap-is = ap (λ (i : Identity). daysOf (i .class)) (g .identity)
-
-      day-is : x .recorder .clock .time / 86400 ≡ q / 48
-      day-is = omega (arith, g .clock .here)
 
 module _ (s : SetUp) (p : Tape) (q : ℕ) (x : Mem) (g : KeptAt s p q x) where
   pub meter-kept : KeptAt s (metered (q / 48) p) q (flagToday 64 x)
@@ -202,18 +194,8 @@ module _ (s : SetUp) (p : Tape) (q : ℕ) (x : Mem) (g : KeptAt s p q x) where
   meter-kept =
       let f = p .flags in
       flag-kept s p q 64 x g (metered (q / 48) p .flags)
-      (rw (mark-here (q / 48) (f .meter)) (with64 (f .outage (q / 48)) (f .meter (q / 48)) (f .reset (q / 48))))
+      (rw (mark-here (q / 48) (f .meter)) (with-meter f (q / 48)))
       (λ d ne. rw (mark-other (q / 48) (f .meter) d ne))
-    where
-      with64 : (a b c : Bool) → bitOr (bit a * 128 + bit b * 64 + bit c * 32) 64 ≡ bit a * 128 + bit true * 64 + bit c * 32
-      with64 true true true = refl
-      with64 true true false = refl
-      with64 true false true = refl
-      with64 true false false = refl
-      with64 false true true = refl
-      with64 false true false = refl
-      with64 false false true = refl
-      with64 false false false = refl
 
   -- the demands of a Reset, and then its flag
   abbrev peak : ℕ
@@ -253,15 +235,5 @@ module _ (s : SetUp) (p : Tape) (q : ℕ) (x : Mem) (g : KeptAt s p q x) where
   reset-kept century =
       let f = p .flags in
       flag-kept s _ q 32 _ (cleared-kept century) (resetOn q (q / 48) peak p .flags)
-      (rw (mark-here (q / 48) (f .reset)) (with32 (f .outage (q / 48)) (f .meter (q / 48)) (f .reset (q / 48))))
+      (rw (mark-here (q / 48) (f .reset)) (with-reset f (q / 48)))
       (λ d ne. rw (mark-other (q / 48) (f .reset) d ne))
-    where
-      with32 : (a b c : Bool) → bitOr (bit a * 128 + bit b * 64 + bit c * 32) 32 ≡ bit a * 128 + bit b * 64 + bit true * 32
-      with32 true true true = refl
-      with32 true true false = refl
-      with32 true false true = refl
-      with32 true false false = refl
-      with32 false true true = refl
-      with32 false true false = refl
-      with32 false false true = refl
-      with32 false false false = refl
