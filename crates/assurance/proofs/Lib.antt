@@ -9,3 +9,6 @@ pub mod Outage
 pub mod Start
 pub mod Answer
 pub mod Run
+pub mod Past
+pub mod Energy
+pub mod Happening
