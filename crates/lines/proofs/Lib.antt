@@ -1,0 +1,2 @@
+-- The lines of the listing, piece after piece.
+pub mod Laws

@@ -1,0 +1,2 @@
+-- The listing as text.
+pub mod Listing

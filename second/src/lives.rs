@@ -1,0 +1,213 @@
+//! Generators of scripts. A life is written line by line and played at once, so that
+//! its next line can follow from where it stands; the seed alone decides it.
+
+mod boundaries;
+mod damage;
+mod hostile;
+mod lines;
+mod ordinary;
+mod writer;
+
+use crate::calendar;
+use crate::random::Random;
+use crate::recorder::{Class, StoreLength};
+use crate::script::Player;
+
+/// The example's identifier, and another.
+pub const IDENTIFIER: &str = "ABCX24000017";
+pub const OTHER_IDENTIFIER: &str = "ABCX24000018";
+
+/// Below the most that a script may have, with room for a last long line.
+const FULL_SCRIPT: usize = 1_700_000;
+
+pub struct Script {
+    pub name: String,
+    pub text: Vec<u8>,
+}
+
+type Generator = fn(u64) -> Script;
+
+/// The kinds of a round, each with the number of scripts of that kind.
+const KINDS: [(Generator, u64); 19] = [
+    (ordinary::weeks, 16),
+    (ordinary::year, 1),
+    (ordinary::ledgers, 3),
+    (boundaries::instants, 1),
+    (boundaries::units, 1),
+    (boundaries::run_rounds, 1),
+    (boundaries::rings, 1),
+    (boundaries::calendar_ends, 1),
+    (boundaries::starts, 1),
+    (hostile::set_ups, 1),
+    (hostile::pokes, 2),
+    (hostile::stores, 2),
+    (hostile::calls, 4),
+    (writer::given, 2),
+    (damage::blocks, 2),
+    (damage::sizes, 1),
+    (damage::ledgers, 1),
+    (damage::conflicts, 2),
+    (lines::garbled, 2),
+];
+
+/// All scripts of one round.
+pub fn round(seed: u64) -> Vec<Script> {
+    let mut seeds = Random::new(seed);
+    let mut scripts = Vec::new();
+    for (generate, times) in KINDS {
+        for _ in 0..times {
+            scripts.push(generate(seeds.bits()));
+        }
+    }
+    scripts.extend(lines::longest());
+    scripts
+}
+
+/// A life being written.
+struct Life {
+    random: Random,
+    player: Player,
+    text: Vec<u8>,
+    lines: usize,
+}
+
+impl Life {
+    fn new(seed: u64) -> Life {
+        Life { random: Random::new(seed), player: Player::new(), text: Vec::new(), lines: 0 }
+    }
+
+    /// Writes a line, plays it and gives its answer.
+    fn say(&mut self, line: impl AsRef<[u8]>) -> String {
+        self.text.extend(line.as_ref());
+        self.text.push(b'\n');
+        self.lines += 1;
+        self.player.play_line(self.lines, line.as_ref()).unwrap_or_default()
+    }
+
+    fn say_all(&mut self, lines: &[&str]) {
+        for line in lines {
+            self.say(line);
+        }
+    }
+
+    fn is_full(&self) -> bool {
+        self.text.len() > FULL_SCRIPT
+    }
+
+    fn finish(self, name: &str) -> Script {
+        Script { name: name.to_string(), text: self.text }
+    }
+
+    fn time(&self) -> u64 {
+        self.player.recorder.time
+    }
+
+    fn today(&self) -> u64 {
+        calendar::day_of(self.time())
+    }
+
+    /// A time in either of its two forms.
+    fn time_words(&mut self, time: u64) -> String {
+        if time > calendar::LAST_TIME || self.random.once_in(4) {
+            format!("@{time}")
+        } else {
+            format!("{} {}", calendar::write_date(calendar::day_of(time)), calendar::write_seconds(time))
+        }
+    }
+
+    /// A day in either of its two forms.
+    fn day_word(&mut self, day: u64) -> String {
+        if day >= calendar::DAYS || self.random.once_in(4) {
+            format!("@{day}")
+        } else {
+            calendar::write_date(day)
+        }
+    }
+
+    fn set_up(&mut self, class: Class, weight: u64, time: u64, total: u64, counter: u32) -> String {
+        let time = self.time_words(time);
+        self.say(format!("setup {IDENTIFIER} {} {weight} {time} {total} {counter}", letter(class)))
+    }
+
+    fn clock(&mut self, time: u64) -> String {
+        let time = self.time_words(time);
+        self.say(format!("clock {time}"))
+    }
+
+    fn on(&mut self, time: u64) -> String {
+        let time = self.time_words(time);
+        self.say(format!("on {time}"))
+    }
+
+    /// A count so many pulses on.
+    fn pulses(&mut self, pulses: u64) -> String {
+        let counter = self.player.recorder.last.wrapping_add(pulses as u32);
+        self.say(format!("count {counter}"))
+    }
+
+    /// The most pulses that the running half-hour still takes.
+    fn pulses_left(&self) -> u64 {
+        let r = &self.player.recorder;
+        let units = (r.total / 10 + 100_000_000 - r.base) % 100_000_000;
+        let watt_hours = (9_999_u64.saturating_sub(units)) * 10 + 9 - r.total % 10;
+        watt_hours.checked_div(r.weight).unwrap_or(0)
+    }
+
+    fn day(&mut self, day: u64) -> String {
+        let day = self.day_word(day);
+        self.say(format!("day {day}"))
+    }
+
+    fn summary_and_missing(&mut self, day: u64) {
+        let day = self.day_word(day);
+        self.say(format!("summary {day}"));
+        self.say(format!("missing {day}"));
+    }
+
+    fn lend(&mut self, length: StoreLength) {
+        self.say(format!("lend {} {} {}", length.values, length.starts, length.marks));
+    }
+
+    /// A fresh recorder with a few days behind it, power on, marks and flags among them.
+    fn lived(&mut self, class: Class, days: u64) {
+        let start = self.random.between(600, 36_000) * calendar::SECONDS_PER_DAY + self.random.below(80_000);
+        let weight = self.random.between(1, 100);
+        let total = self.random.below(1_000_000_000);
+        let counter = self.random.bits() as u32;
+        self.set_up(class, weight, start, total, counter);
+        let end = start + days * calendar::SECONDS_PER_DAY;
+        while self.time() < end {
+            let pulses = self.random.below(self.pulses_left() / 3 + 2);
+            self.pulses(pulses);
+            let event =
+                *self.random.pick(&["access", "reverse", "reset", "rate 2", "meter 77", "rate 8", "#", "#", "#", "#"]);
+            self.say(event);
+            let time = (self.time() + self.random.between(1_000, 20_000)).min(end);
+            self.clock(time);
+        }
+    }
+}
+
+fn letter(class: Class) -> &'static str {
+    match class {
+        Class::A => "a",
+        Class::B => "b",
+        Class::C => "c",
+        Class::D => "d",
+    }
+}
+
+/// The nine events at their plainest, at a present time.
+fn plain_events(time: u64, last: u32) -> [String; 9] {
+    [
+        format!("count {last}"),
+        format!("clock @{time}"),
+        "off".to_string(),
+        format!("on @{time}"),
+        "access".to_string(),
+        format!("meter {last}"),
+        "reset".to_string(),
+        "rate 3".to_string(),
+        "reverse".to_string(),
+    ]
+}

@@ -1,0 +1,512 @@
+//! An interpreter of docs/REPLAY.md: it plays a script line by line and answers
+//! each line with the text that the proved program must print.
+
+use crate::answer::{Answer, DONE};
+use crate::block::{self, Day, Fields, Header, RATES};
+use crate::calendar::{self, HALF_HOURS, SECONDS_PER_DAY};
+use crate::identifier::{self, Identifier};
+use crate::ledger;
+use crate::listing;
+use crate::recorder::{self, Class, Event, Recorder, SetUp, Store, StoreLength, BLANK};
+
+/// Of a longer script nothing is played.
+pub const MOST_SCRIPT_BYTES: usize = 2_000_000;
+pub const KEPT_BLOCKS: usize = 32;
+pub const LONGEST_STORE: StoreLength = Class::D.store_length();
+pub const MOST_LEDGER_BYTES: usize = ledger::bytes_for(ledger::MOST_DAYS as usize);
+
+const MOST_DIGITS: usize = 18;
+
+/// All that a script works on.
+pub struct Player {
+    pub recorder: Recorder,
+    values: Vec<u16>,
+    starts: Vec<u32>,
+    marks: Vec<u64>,
+    lent: StoreLength,
+    /// A `lend V S M` stands.
+    lend_stands: bool,
+    pub block: Vec<u8>,
+    kept: Vec<Vec<u8>>,
+    pub ledger: Vec<u8>,
+    given: Header,
+    given_days: Vec<Day>,
+}
+
+/// One script line's number from 1, and its answer: one line or more, without the last newline.
+pub struct Played {
+    pub line: usize,
+    pub answer: String,
+}
+
+/// Plays a whole script.
+pub fn play(script: &[u8]) -> Vec<Played> {
+    if script.len() > MOST_SCRIPT_BYTES {
+        return vec![Played { line: 0, answer: "? 0".to_string() }];
+    }
+    let mut player = Player::new();
+    let mut played = Vec::new();
+    for (text, line) in script.split(|&byte| byte == b'\n').zip(1..) {
+        if let Some(answer) = player.play_line(line, text) {
+            played.push(Played { line, answer });
+        }
+    }
+    played
+}
+
+type Word<'a> = &'a [u8];
+
+/// A whole number of at most 18 digits.
+fn number(word: Word) -> Option<u64> {
+    if word.is_empty() || word.len() > MOST_DIGITS {
+        return None;
+    }
+    calendar::digits(word)
+}
+
+fn number_below(word: Word, end: usize) -> Option<usize> {
+    number(word).and_then(|number| usize::try_from(number).ok()).filter(|&number| number < end)
+}
+
+fn number_up_to(word: Word, most: usize) -> Option<usize> {
+    number(word).and_then(|number| usize::try_from(number).ok()).filter(|&number| number <= most)
+}
+
+fn number_u8(word: Word) -> Option<u8> {
+    u8::try_from(number(word)?).ok()
+}
+
+fn number_u16(word: Word) -> Option<u16> {
+    u16::try_from(number(word)?).ok()
+}
+
+fn number_u32(word: Word) -> Option<u32> {
+    u32::try_from(number(word)?).ok()
+}
+
+/// A number of 32 bits that the oracle holds in a wider one.
+fn number_32_bits(word: Word) -> Option<u64> {
+    number_u32(word).map(u64::from)
+}
+
+fn yes_or_no(word: Word) -> Option<bool> {
+    match number(word)? {
+        0 => Some(false),
+        1 => Some(true),
+        _ => None,
+    }
+}
+
+fn after_at(word: Word) -> Option<Word> {
+    word.strip_prefix(b"@")
+}
+
+fn day(word: Word) -> Option<u64> {
+    match after_at(word) {
+        Some(word) => number_32_bits(word),
+        None => calendar::read_date(word),
+    }
+}
+
+/// A time at the front of the words, and the words behind it.
+fn time<'a, 'b>(words: &'b [Word<'a>]) -> Option<(u64, &'b [Word<'a>])> {
+    let (first, rest) = words.split_first()?;
+    if let Some(word) = after_at(first) {
+        return Some((number(word)?, rest));
+    }
+    let (second, rest) = rest.split_first()?;
+    Some((calendar::read_date(first)? * SECONDS_PER_DAY + calendar::read_seconds(second)?, rest))
+}
+
+/// Words that are one time and nothing else.
+fn only_time(words: &[Word]) -> Option<u64> {
+    match time(words)? {
+        (time, []) => Some(time),
+        _ => None,
+    }
+}
+
+fn identifier(word: Word) -> Option<Identifier> {
+    word.try_into().ok()
+}
+
+fn class(word: Word) -> Option<Option<Class>> {
+    match word {
+        [letter] if letter.is_ascii_alphabetic() => Some(Class::of_letter(*letter)),
+        _ => None,
+    }
+}
+
+fn rate_index(word: Word) -> Option<usize> {
+    number_up_to(word, RATES)?.checked_sub(1)
+}
+
+fn hexadecimal(word: Word) -> Option<Vec<u8>> {
+    if word.is_empty() || word.len() % 2 != 0 {
+        return None;
+    }
+    let digit = |character: u8| char::from(character).to_digit(16);
+    word.chunks(2)
+        .map(|pair| match pair {
+            [high, low] => u8::try_from(digit(*high)? * 16 + digit(*low)?).ok(),
+            _ => None,
+        })
+        .collect()
+}
+
+fn print_hexadecimal(bytes: &[u8]) -> String {
+    bytes.iter().map(|byte| format!("{byte:02x}")).collect()
+}
+
+fn print(answer: Answer) -> Option<String> {
+    Some(format!("{} {}", answer.number, answer.carried))
+}
+
+fn print_done(carried: usize) -> Option<String> {
+    print(Answer::done(carried))
+}
+
+impl Player {
+    pub fn new() -> Player {
+        Player {
+            recorder: BLANK,
+            values: vec![0; LONGEST_STORE.values],
+            starts: vec![0; LONGEST_STORE.starts],
+            marks: vec![0; LONGEST_STORE.marks],
+            lent: StoreLength::default(),
+            lend_stands: false,
+            block: Vec::new(),
+            kept: vec![Vec::new(); KEPT_BLOCKS],
+            ledger: Vec::new(),
+            given: Header::default(),
+            given_days: vec![Day::ZERO; block::MOST_DAYS],
+        }
+    }
+
+    /// Plays one line; an empty line or a comment answers nothing.
+    pub fn play_line(&mut self, line: usize, text: &[u8]) -> Option<String> {
+        if text.is_empty() || text.starts_with(b"#") {
+            return None;
+        }
+        let words: Vec<Word> = text.split(|&byte| byte == b' ').collect();
+        Some(self.obey(&words).unwrap_or_else(|| format!("? {line}")))
+    }
+
+    /// The answer to a command, or nothing where it can't be understood; then nothing has changed.
+    fn obey(&mut self, words: &[Word]) -> Option<String> {
+        match words {
+            [b"setup", rest @ ..] => self.set_up(rest),
+            [b"count", n] => self.event(Event::Count(number_u32(n)?)),
+            [b"clock", rest @ ..] => self.event(Event::Clock(only_time(rest)?)),
+            [b"off"] => self.event(Event::Off),
+            [b"on", rest @ ..] => self.event(Event::On(only_time(rest)?)),
+            [b"access"] => self.event(Event::Access),
+            [b"meter", n] => self.event(Event::Meter(number_u32(n)?)),
+            [b"reset"] => self.event(Event::Reset),
+            [b"rate", n] => self.event(Event::Rate(number_u32(n)?)),
+            [b"reverse"] => self.event(Event::Reverse),
+            [b"read", n] => self.read(number_u32(n)?, block::MOST_BYTES),
+            [b"read", n, room] => self.read(number_u32(n)?, number_up_to(room, block::MOST_BYTES)?),
+            [b"day", d] => self.show_day(day(d)?),
+            [b"show"] => Some(self.show()),
+            [b"block"] => Some(print_hexadecimal(&self.block)),
+            [b"hex", bytes] => self.hex(bytes),
+            [b"byte", at, n] => {
+                let n = number_u8(n)?;
+                let at = number_below(at, self.block.len())?;
+                *self.block.get_mut(at)? = n;
+                print_done(0)
+            }
+            [b"cut", n] => {
+                let n = number_up_to(n, block::MOST_BYTES)?;
+                self.block.resize(n, 0);
+                print_done(n)
+            }
+            [b"check"] => print(block::check(&self.block)),
+            [b"keep", k] => {
+                let kept = self.kept.get_mut(number_below(k, KEPT_BLOCKS)?)?;
+                kept.clone_from(&self.block);
+                print_done(kept.len())
+            }
+            [b"take", k] => {
+                self.block.clone_from(self.kept.get(number_below(k, KEPT_BLOCKS)?)?);
+                print_done(self.block.len())
+            }
+            [b"listing"] => Some(listing::listing(&self.block).trim_end().to_string()),
+            [b"fields"] => self.fields(),
+            [b"given", rest @ ..] => self.give(rest),
+            [b"write", room] => {
+                let room = number_up_to(room, block::MOST_BYTES)?;
+                let days = usize::try_from(self.given.days).unwrap_or(usize::MAX);
+                let days = self.given_days.get(..days).unwrap_or(&self.given_days);
+                let mut output = vec![0; room];
+                let answer = block::write(&self.given, days, &mut output);
+                self.take_output(answer, output)
+            }
+            [b"open", id, d, n] => self.open(&identifier(id)?, day(d)?, number_u32(n)?),
+            [b"file"] => print(ledger::file(&mut self.ledger, &self.block)),
+            [b"deliver", k] => {
+                let kept = self.kept.get(number_below(k, KEPT_BLOCKS)?)?;
+                print(ledger::file(&mut self.ledger, kept))
+            }
+            [b"summary", d] => {
+                let s = ledger::summary(&self.ledger, day(d)?);
+                Some(format!(
+                    "{} {} {} {} {} {} {}",
+                    s.answer,
+                    u8::from(s.held),
+                    s.half_hours,
+                    s.start,
+                    s.sum,
+                    s.reverse,
+                    s.level2
+                ))
+            }
+            [b"missing", d] => {
+                let m = ledger::missing(&self.ledger, day(d)?);
+                Some(format!("{} {} {}", m.answer, m.first, m.count))
+            }
+            [b"ledger"] => Some(print_hexadecimal(&self.ledger)),
+            [b"lend"] => {
+                self.lend_stands = false;
+                self.lent = self.recorder.class.map(Class::store_length).unwrap_or_default();
+                print_done(0)
+            }
+            [b"lend", b"ledger", n] => {
+                let n = number_up_to(n, MOST_LEDGER_BYTES)?;
+                self.ledger.resize(n, 0);
+                print_done(0)
+            }
+            [b"lend", v, s, m] => {
+                self.lent = StoreLength {
+                    values: number_up_to(v, LONGEST_STORE.values)?,
+                    starts: number_up_to(s, LONGEST_STORE.starts)?,
+                    marks: number_up_to(m, LONGEST_STORE.marks)?,
+                };
+                self.lend_stands = true;
+                print_done(0)
+            }
+            [b"poke", rest @ ..] => self.poke(rest),
+            _ => None,
+        }
+    }
+
+    /// The recorder beside the store as it is lent.
+    fn lend(&mut self) -> (&mut Recorder, Store<'_>) {
+        let store = Store {
+            values: self.values.get_mut(..self.lent.values).unwrap_or_default(),
+            starts: self.starts.get_mut(..self.lent.starts).unwrap_or_default(),
+            marks: self.marks.get_mut(..self.lent.marks).unwrap_or_default(),
+        };
+        (&mut self.recorder, store)
+    }
+
+    fn set_up(&mut self, words: &[Word]) -> Option<String> {
+        let [id, letter, weight, rest @ ..] = words else { return None };
+        let (time, rest) = time(rest)?;
+        let [total, counter] = rest else { return None };
+        let given = SetUp {
+            identifier: identifier(id)?,
+            class: class(letter)?,
+            weight: number_32_bits(weight)?,
+            time,
+            total: number(total)?,
+            counter: number_u32(counter)?,
+        };
+        if !self.lend_stands {
+            self.lent = given.class.map(Class::store_length).unwrap_or_default();
+        }
+        let (recorder, mut store) = self.lend();
+        let answer;
+        (*recorder, answer) = recorder::set_up(&given, &mut store);
+        print(answer)
+    }
+
+    fn event(&mut self, event: Event) -> Option<String> {
+        let (recorder, mut store) = self.lend();
+        let answer;
+        (*recorder, answer) = recorder.step(event, &mut store);
+        print(answer)
+    }
+
+    fn read(&mut self, asked: u32, room: usize) -> Option<String> {
+        let mut output = vec![0; room];
+        let (recorder, store) = self.lend();
+        let answer = recorder.read(asked, &store, &mut output);
+        self.take_output(answer, output)
+    }
+
+    /// A written block becomes the current one.
+    fn take_output(&mut self, answer: Answer, mut output: Vec<u8>) -> Option<String> {
+        if answer.number == DONE {
+            output.truncate(answer.carried as usize);
+            self.block = output;
+        }
+        print(answer)
+    }
+
+    fn show_day(&mut self, day: u64) -> Option<String> {
+        let room = self.recorder.class?.room(day);
+        let (_, store) = self.lend();
+        let day = store.day(room)?;
+        let mut text = format!("{} {} {} {}", day.start, day.flags, day.reverse, day.level2);
+        for value in day.values {
+            text += &format!(" {value}");
+        }
+        Some(text)
+    }
+
+    fn show(&self) -> String {
+        let r = &self.recorder;
+        let mut numbers = vec![
+            Class::ALL.iter().zip(1..).find(|(class, _)| Some(**class) == r.class).map_or(0, |(_, number)| number),
+            r.weight,
+            r.time,
+            u64::from(r.power),
+            r.days,
+            r.total,
+            u64::from(r.last),
+            r.rate,
+        ];
+        numbers.extend(r.registers);
+        numbers.extend([
+            r.current,
+            r.previous,
+            r.cumulative,
+            r.reset,
+            r.resets,
+            r.base,
+            u64::from(r.reverse),
+            u64::from(r.level2),
+        ]);
+        numbers.iter().map(u64::to_string).collect::<Vec<String>>().join(" ")
+    }
+
+    fn hex(&mut self, word: Word) -> Option<String> {
+        let bytes = hexadecimal(word).filter(|bytes| bytes.len() <= block::MOST_BYTES)?;
+        self.block = bytes;
+        print_done(self.block.len())
+    }
+
+    /// The current block's fields become the given ones, if the reader accepts it.
+    fn fields(&mut self) -> Option<String> {
+        match block::read(&self.block) {
+            Err(refusal) => print(refusal),
+            Ok(Fields { header, days }) => {
+                self.given = header;
+                for (place, day) in self.given_days.iter_mut().zip(&days) {
+                    *place = *day;
+                }
+                print_done(days.len())
+            }
+        }
+    }
+
+    fn give(&mut self, words: &[Word]) -> Option<String> {
+        let given = &mut self.given;
+        match words {
+            [b"time", n] => given.time = number(n)?,
+            [b"kwh", n] => given.kwh = number_32_bits(n)?,
+            [b"current", n] => given.current = number_32_bits(n)?,
+            [b"previous", n] => given.previous = number_32_bits(n)?,
+            [b"cumulative", n] => given.cumulative = number_32_bits(n)?,
+            [b"reset", n] => given.reset = number_32_bits(n)?,
+            [b"resets", n] => given.resets = number_32_bits(n)?,
+            [b"days", n] => given.days = number_32_bits(n)?,
+            [b"identifier", i, n] => {
+                let n = number_u8(n)?;
+                *given.identifier.get_mut(number_below(i, identifier::LENGTH)?)? = n;
+            }
+            [b"register", i, n] => {
+                let n = number_32_bits(n)?;
+                *given.registers.get_mut(rate_index(i)?)? = n;
+            }
+            [b"start", i, n] => {
+                let n = number_u32(n)?;
+                self.given_day(i)?.start = n;
+            }
+            [b"flags", i, n] => {
+                let n = number(n)?;
+                self.given_day(i)?.flags = n;
+            }
+            [b"reversed", i, n] => {
+                let n = number(n)?;
+                self.given_day(i)?.reverse = n;
+            }
+            [b"level2", i, n] => {
+                let n = number(n)?;
+                self.given_day(i)?.level2 = n;
+            }
+            [b"value", i, j, n] => {
+                let n = number_u16(n)?;
+                let j = number_below(j, HALF_HOURS)?;
+                *self.given_day(i)?.values.get_mut(j)? = n;
+            }
+            _ => return None,
+        }
+        print_done(0)
+    }
+
+    fn given_day(&mut self, word: Word) -> Option<&mut Day> {
+        self.given_days.get_mut(number_below(word, block::MOST_DAYS)?)
+    }
+
+    fn open(&mut self, identifier: &Identifier, first: u64, days: u32) -> Option<String> {
+        let days = u64::from(days);
+        let in_range = (1..=ledger::MOST_DAYS).contains(&days);
+        let length = if in_range { ledger::bytes_for(days as usize) } else { 0 };
+        self.ledger = vec![0; length];
+        print(ledger::open(identifier, first, days, &mut self.ledger))
+    }
+
+    fn poke(&mut self, words: &[Word]) -> Option<String> {
+        let r = &mut self.recorder;
+        match words {
+            [b"class", n] => {
+                let n = number_up_to(n, Class::ALL.len())?;
+                r.class = n.checked_sub(1).and_then(|index| Class::ALL.get(index)).copied();
+            }
+            [b"weight", n] => r.weight = number_32_bits(n)?,
+            [b"time", n] => r.time = number(n)?,
+            [b"power", n] => r.power = yes_or_no(n)?,
+            [b"days", n] => r.days = number_32_bits(n)?,
+            [b"total", n] => r.total = number(n)?,
+            [b"last", n] => r.last = number_u32(n)?,
+            [b"rate", n] => r.rate = number_32_bits(n)?,
+            [b"current", n] => r.current = number_32_bits(n)?,
+            [b"previous", n] => r.previous = number_32_bits(n)?,
+            [b"cumulative", n] => r.cumulative = number_32_bits(n)?,
+            [b"reset", n] => r.reset = number_32_bits(n)?,
+            [b"resets", n] => r.resets = number_32_bits(n)?,
+            [b"base", n] => r.base = number_32_bits(n)?,
+            [b"reverse", n] => r.reverse = yes_or_no(n)?,
+            [b"level2", n] => r.level2 = yes_or_no(n)?,
+            [b"identifier", i, n] => {
+                let n = number_u8(n)?;
+                *r.identifier.get_mut(number_below(i, identifier::LENGTH)?)? = n;
+            }
+            [b"register", i, n] => {
+                let n = number(n)?;
+                *r.registers.get_mut(rate_index(i)?)? = n;
+            }
+            [b"value", i, n] => {
+                let n = number_u16(n)?;
+                *self.lend().1.values.get_mut(number_up_to(i, usize::MAX)?)? = n;
+            }
+            [b"start", i, n] => {
+                let n = number_u32(n)?;
+                *self.lend().1.starts.get_mut(number_up_to(i, usize::MAX)?)? = n;
+            }
+            [b"mark", i, n] => {
+                let n = number(n)?;
+                *self.lend().1.marks.get_mut(number_up_to(i, usize::MAX)?)? = n;
+            }
+            [b"ledger", i, n] => {
+                let n = number_u8(n)?;
+                *self.ledger.get_mut(number_up_to(i, usize::MAX)?)? = n;
+            }
+            _ => return None,
+        }
+        print_done(0)
+    }
+}
