@@ -12,3 +12,4 @@ pub mod Run
 pub mod Past
 pub mod Energy
 pub mod Happening
+pub mod Sending

@@ -1,4 +1,5 @@
--- Paper: what happened, without end. Written: what each event writes on it. Meaning: what is said of a list of events.
+-- Paper: what happened, without end. Written: what each event writes on it. Meaning: what is said of a list of events. Sent: what a read sends.
 pub mod Paper
 pub mod Written
 pub mod Meaning
+pub mod Sent
