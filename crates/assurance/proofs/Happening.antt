@@ -84,7 +84,7 @@ outage-sets : (s : SetUp) (d : ℕ) → Sets s (λ t. t .flags .outage d) (Outag
 outage-sets s d p (Count c) = quiet _ _ (λ h. never (cc (h .1)))
 outage-sets s d p (Clock t) = quiet _ _ (λ h. never (cc (h .1)))
 outage-sets s d p Off = quiet _ _ (λ h. never (cc (h .1)))
-outage-sets s d p (On t) = 
+outage-sets s d p (On t) =
     loud (from-iff (today p) (t / 86400) (p .tape .flags .outage) d)
     (λ k. (t, refl, k .0, k .1))
     (λ h. let same : h .0 ≡ t = cc (h .1) in (h .2, rw same at (h .3)))

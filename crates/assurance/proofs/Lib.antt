@@ -13,3 +13,4 @@ pub mod Past
 pub mod Energy
 pub mod Happening
 pub mod Sending
+pub mod Sound

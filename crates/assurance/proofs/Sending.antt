@@ -111,30 +111,28 @@ module _ (s : SetUp) (p : Paper) (d k r : ℕ) (x : Store) (few : k ≤ 48) (v :
 
 -- ---- the days of a run's recorder
 
+-- where they lie
+abbrev pub ringOf : SetUp → Paper → Source
+ringOf s p = ring (capOf s) (today p) (endedAt (p .time))
+
 module _ (s : SetUp) (z : Given s) (p : Paper) (x : Mem) (k : Kept s p x) where
-  abbrev src : Source
-  src = ring (capOf s) (today p) (endedAt (p .time))
-
-  abbrev days : ℕ → DayRecord
-  days = daysFrom src (x .store .values) (x .store .starts) (x .store .marks)
-
   pub days-are : x .recorder .clock .days ≡ storedDays s p
   days-are = let e : now p / 48 ≡ today p = omega arith in rw e at (k .at .clock .days)
 
   pub stored : (i : ℕ) → i < storedDays s p → Stored s (now p) (today p - i)
   stored i l = record { first = omega arith; last = omega arith; near = omega (arith, k .at .clock .begun) }
 
-  pub room-is : (i : ℕ) → i < storedDays s p → roomOf src i ≡ (today p - i) % capOf s
+  pub room-is : (i : ℕ) → i < storedDays s p → roomOf (ringOf s p) i ≡ (today p - i) % capOf s
   room-is i l = ring-room (capOf s) (today p) (endedAt (p .time)) i (z .some) (omega arith)
 
-  pub taken-is : (i : ℕ) → i < storedDays s p → takenOf src i ≡ reached (now p) (today p - i)
+  pub taken-is : (i : ℕ) → i < storedDays s p → takenOf (ringOf s p) i ≡ reached (now p) (today p - i)
   unfolding takenOf
   taken-is i l =
       by-dec (ℕ-discrete i 0)
       (λ e. rw (eq-eqb i 0 e, e) (omega arith))
       (λ e. rw (ne-eqb i 0 e) (omega arith))
 
-  pub day-due : (i : ℕ) → i < storedDays s p → Alike (days i) (backDue s p i)
+  pub day-due : (i : ℕ) → i < storedDays s p → Alike (daysFrom (ringOf s p) (x .store .values) (x .store .starts) (x .store .marks) i) (backDue s p i)
   day-due i l =
       let d = today p - i in
       let g = k .at .store in
