@@ -1,0 +1,111 @@
+-- The checks in their order, in the form that the code's returns look for, and what an answer of 0 says.
+-- Assumes nothing.
+use Prim.Native.Nat.{ℕ, _*_, _<_, _≤_}
+use mathlib.Core.Bool.{Bool, true, false, not, cond, _&&_}
+use mathlib.Core.Path.{_≡_, refl, sym, ap, _∙_}
+use mathlib.Core.List.{List}
+use native.Mathlib.Omega.{arith}
+use borrow.Author.Tests.{eq-eqb, ne-eqb, eqb-true, eqb-false, leb-true, ltb-true, not-false}
+use lib.Dec.{leb, ltb, eqb}
+use lib.ListN.{length}
+use Rattle.laws.proofs.Bools.{both, passed, failed}
+use Rattle.laws.proofs.Checks.{NoneFails, none-fails}
+use Rattle.quantity.specs.declared.RegisterUnits.{RegisterUnits}
+use Rattle.quantity.specs.Units.{units}
+use Rattle.registers.specs.Energy.{Countable}
+use Rattle.registers.specs.Time.{endTime}
+use Rattle.store.specs.declared.Class.{Class}
+use Rattle.store.specs.declared.Class.the-variants.{A, B, C, D, Blank}
+use Rattle.store.specs.Class.{daysOf, mostDays, dayValues, dayWords, rightLengths}
+use Rattle.store.specs.Store.{Fits, store}
+use Rattle.recorder.specs.Recorder.{Recorder, Event, Clock, On, mem, capOf}
+use Rattle.recorder.specs.Range.{inRange}
+use Rattle.recorder.specs.Answer.{mostUnits, unitsAfter, eventAnswer, inTime, checks, answerWith, answerOf}
+use Rattle.recorder.specs.Needs.{Good, Goes, Resets, Flaggable}
+use Rattle.recorder.proofs.Ranges.{Ranges, ranges, countable}
+
+pub range-counts : (r : Recorder) (b : Bool) → b ≡ inRange r → not b ≡ false → Countable (r .identity .weight) (r .energy)
+range-counts r b e t = countable r (ranges r (passed b (inRange r) e t))
+
+module _ (r : Recorder) (e : Event) (v s m : ℕ) (d : ℕ) (p : d ≡ capOf r) where
+  pub no-class : d ≡ 0 → 5 ≡ answerWith r e v s m
+  unfolding answerWith
+  no-class z = rw (eq-eqb (capOf r) 0 (sym p ∙ z))
+
+  module _ (some : d ≡ 0 → ⊥) (f : Bool) (q : f ≡ rightLengths (capOf r) v s m) where
+    real : eqb (capOf r) 0 ≡ false
+    real = ne-eqb (capOf r) 0 (λ z. some (p ∙ z))
+
+    pub wrong-length : not f ≡ true → 4 ≡ answerWith r e v s m
+    unfolding answerWith
+    wrong-length t = rw (real, failed f _ q t)
+
+    module _ (t : not f ≡ false) (g : Bool) (k : g ≡ inRange r) where
+      pub out-of-range : not g ≡ true → 5 ≡ answerWith r e v s m
+      unfolding answerWith
+      out-of-range u = rw (real, passed f _ q t, failed g _ k u)
+
+      pub event-judged : not g ≡ false → (a : ℕ) → a ≡ eventAnswer (r .clock .on) (r .clock .time) (unitsAfter r) e → a ≡ answerWith r e v s m
+      unfolding answerWith eventAnswer
+      event-judged u a w = w ∙ rw (real, passed f _ q t, passed g _ k u)
+
+-- a Count's two checks
+pub count-judged : (r : Recorder) (c : ℕ) (u : RegisterUnits) (a b : ℕ) → u ≡ units (unitsAfter r c) → b ≡ cond (ltb mostUnits (u .0)) 3 0 → a ≡ cond (not (r .clock .on)) 1 b
+    → a ≡ cond (not (r .clock .on)) 1 (cond (ltb mostUnits (unitsAfter r c)) 3 0)
+count-judged r c u a b p q t = rw (t, q, p)
+
+-- the lengths that passed
+pub right-lengths : (cap v s m : ℕ) → rightLengths cap v s m ≡ true → (v ≡ cap * dayValues) × (s ≡ cap) × (m ≡ cap * dayWords)
+right-lengths cap v s m e =
+    let a = both (eqb v (cap * dayValues) && eqb s cap) (eqb m (cap * dayWords)) e in
+    let b = both (eqb v (cap * dayValues)) (eqb s cap) (a .0) in
+    (eqb-true _ _ (b .0), eqb-true _ _ (b .1), eqb-true _ _ (a .1))
+
+-- an answer of 0: no check fails
+pub answered : (r : Recorder) (e : Event) (v s m : ℕ) → answerWith r e v s m ≡ 0 → NoneFails (checks r e v s m)
+unfolding answerWith
+answered r e v s m a = none-fails (checks r e v s m) refl a
+
+pub days-few : (k : Class) → daysOf k ≤ mostDays
+days-few A = omega arith
+days-few B = omega arith
+days-few C = omega arith
+days-few D = omega arith
+days-few Blank = omega arith
+
+module _ (r : Recorder) (e : Event) (v s m : List ℕ) (a : answerOf (mem r v s m) e ≡ 0) where
+  none : NoneFails (checks r e (length v) (length s) (length m))
+  unfolding answerOf
+  none = answered r e (length v) (length s) (length m) a
+
+  pub accepted-ranges : Ranges r
+  accepted-ranges = ranges r (not-false (inRange r) (none .1 .1 .0))
+
+  pub accepted-fits : Fits (capOf r) (store v s m)
+  accepted-fits =
+      let f = right-lengths (capOf r) (length v) (length s) (length m) (not-false (rightLengths (capOf r) (length v) (length s) (length m)) (none .1 .0)) in
+      record { some = omega (arith, eqb-false (capOf r) 0 (none .0)); most = days-few (r .identity .class); values = f .0; starts = f .1; marks = f .2 }
+
+  pub accepted-counts : Countable (r .identity .weight) (r .energy)
+  accepted-counts = countable r accepted-ranges
+
+  pub accepted-good : Good (mem r v s m)
+  accepted-good = let g = accepted-ranges in record { time = g .time; days = g .days-high; total = g .total; fits = accepted-fits }
+
+  pub accepted-flags : Flaggable r m
+  accepted-flags =
+      record { time = accepted-ranges .time; words = record { some = accepted-fits .some; most = accepted-fits .most; marks = accepted-fits .marks } }
+
+  pub accepted-resets : Resets r
+  accepted-resets = record { time = accepted-ranges .time; count = accepted-ranges .count }
+
+  goes : (t : ℕ) → not (inTime (r .clock .time) t) ≡ false → Goes t (mem r v s m)
+  goes t f =
+      let b = both (leb (r .clock .time) t) (ltb t endTime) (not-false (inTime (r .clock .time) t) f) in
+      record { good = accepted-good; from = leb-true _ _ (b .0); to = ltb-true _ _ (b .1) }
+
+  pub accepted-clock : (t : ℕ) → e ≡ Clock t → Goes t (mem r v s m)
+  accepted-clock t p = goes t (rw p at (none .1 .1 .1 .1 .1 .0))
+
+  pub accepted-on : (t : ℕ) → e ≡ On t → Goes t (mem r v s m)
+  accepted-on t p = goes t (rw p at (none .1 .1 .1 .1 .1 .0))

@@ -1,0 +1,19 @@
+use borrow.Author.Needs.{needs}
+use borrow.Author.Needs.{needs}
+use Rattle.recorder.proofs.SetUp.in_range.Statement.{statement}
+use Rattle.recorder.proofs.SetUp.in_range.Tie as tie
+
+valid-requires : tie.Need-valid-requires
+valid-requires c κs = search needs
+
+days-requires : tie.Need-days-requires
+days-requires c κs = search needs
+
+weight-ok-requires : tie.Need-weight-ok-requires
+weight-ok-requires c κs = search needs
+
+returns : tie.Need-returns
+returns c = cc
+
+pub in-range-spec : {M : Type 1} → statement M
+in-range-spec = tie.close (tie.spec valid-requires days-requires weight-ok-requires returns)

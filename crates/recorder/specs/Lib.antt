@@ -1,0 +1,10 @@
+pub mod Recorder
+pub mod Range
+pub mod Boundary
+pub mod Effect
+pub mod Answer
+pub mod Step
+pub mod SetUp
+pub mod Stored
+pub mod Cases
+pub mod Needs

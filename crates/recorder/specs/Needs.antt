@@ -1,0 +1,38 @@
+-- What the functions below the entries ask of a recorder and its store: each is proved to hold wherever they are called, and no entry asks anything.
+use Prim.Native.Nat.{ℕ, _<_, _≤_}
+use mathlib.Core.List.{List}
+use Rattle.quantity.specs.Units.{totalRound}
+use Rattle.registers.specs.Demand.{countRound}
+use Rattle.registers.specs.Time.{endTime}
+use Rattle.store.specs.Class.{daysOf}
+use Rattle.store.specs.Store.{Store, Fits, Words}
+use Rattle.recorder.specs.declared.SetUp.{SetUp}
+use Rattle.recorder.specs.Recorder.{Recorder, Mem, capOf}
+
+pub record Good (x : Mem) : Type 0 where
+  pub time : x .recorder .clock .time < endTime
+  pub days : x .recorder .clock .days ≤ capOf (x .recorder)
+  pub total : x .recorder .energy .total .0 < totalRound
+  pub fits : Fits (capOf (x .recorder)) (x .store)
+
+-- time can go on to t
+pub record Goes (t : ℕ) (x : Mem) : Type 0 where
+  pub good : Good x
+  pub from : x .recorder .clock .time ≤ t
+  pub to : t < endTime
+
+-- a Reset
+pub record Resets (r : Recorder) : Type 0 where
+  pub time : r .clock .time < endTime
+  pub count : r .demand .count < countRound
+
+-- flags
+pub record Flaggable (r : Recorder) (m : List ℕ) : Type 0 where
+  pub time : r .clock .time < endTime
+  pub words : Words (capOf r) m
+
+-- a set-up that is accepted
+pub record Begins (s : SetUp) (x : Store) : Type 0 where
+  pub time : s .time < endTime
+  pub total : s .total .0 < totalRound
+  pub fits : Fits (daysOf (s .class)) x

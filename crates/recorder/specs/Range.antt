@@ -1,0 +1,21 @@
+-- The ranges of a recorder's fields (document 01, answer 5), as tests that compute.
+use mathlib.Core.Bool.{Bool}
+use mathlib.Core.List.{List, [], _∷_}
+use lib.Dec.{ltb}
+use Rattle.identifier.specs.Identifier.{idOk}
+use Rattle.laws.specs.Tests.{allTrue}
+use Rattle.quantity.specs.Units.{readingRound}
+use Rattle.registers.specs.Demand.{demandOk}
+use Rattle.registers.specs.Energy.{weightOk, energyOk}
+use Rattle.registers.specs.Present.{presentOk}
+use Rattle.recorder.specs.Recorder.{Identity, Recorder, capOf}
+
+abbrev pub identityTests : Identity → List Bool
+identityTests i = idOk (i .identifier) ∷ weightOk (i .weight) ∷ []
+
+abbrev pub groups : Recorder → List Bool
+groups r =
+    allTrue (identityTests (r .identity)) ∷ presentOk (capOf r) (r .clock) ∷ energyOk (r .energy) ∷ demandOk (r .demand) ∷ ltb (r .running .base .0) readingRound ∷ []
+
+unfoldable pub inRange : Recorder → Bool
+inRange r = allTrue (groups r)

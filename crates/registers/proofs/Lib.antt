@@ -1,0 +1,2 @@
+-- Laws of the registers.
+pub mod Laws

@@ -1,0 +1,4 @@
+pub mod Time
+pub mod Present
+pub mod Energy
+pub mod Demand

@@ -1,0 +1,2 @@
+-- Laws of the store that the proofs here and above cite.
+pub mod Laws

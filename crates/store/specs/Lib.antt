@@ -1,0 +1,3 @@
+pub mod Class
+pub mod Store
+pub mod Begun
