@@ -130,7 +130,7 @@ impl Identity {
 
 impl Recorder {
     // The days that the class holds.
-    fn cap(self) -> u32
+    pub fn cap(self) -> u32
         ensures { λ r. ⌜ (r ≡ capOf self) × (r ≤ mostDays) ⌝ }
     {
         let identity = self.identity;
@@ -138,7 +138,7 @@ impl Recorder {
         class.days()
     }
 
-    fn in_range(self) -> bool
+    pub fn in_range(self) -> bool
         ensures { λ r. ⌜ r ≡ inRange self ⌝ }
     {
         let identity = self.identity;
