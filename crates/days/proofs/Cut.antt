@@ -1,7 +1,7 @@
 -- Two cuts of one history agree, and join to the longer one.
 -- Assumes nothing.
 use mathlib.Core.Path.{_≡_, refl, ap, _∙_}
-use mathlib.Core.Bool.{Bool, true, false, Bool·beq}
+use mathlib.Core.Bool.{true}
 use mathlib.Core.List.{List}
 use Prim.Native.Nat.{ℕ, zero, suc, _-_, max}
 use native.Mathlib.Omega.{arith}
@@ -12,14 +12,8 @@ use Rattle.laws.specs.Table.{table}
 use Rattle.laws.proofs.Split.{by-test}
 use Rattle.laws.proofs.Table.{length-table}
 use Rattle.days.specs.Day.{Half, History, whole, flagsHeld, cut, extentOf, count}
-use Rattle.days.specs.Agree.{sameHalf, agree, sameFlags, sameDay, joinDay}
-
-beq-refl : (b : Bool) → Bool·beq b b ≡ true
-beq-refl true = refl
-beq-refl false = refl
-
-same-half-refl : (a : Half) → sameHalf a a ≡ true
-same-half-refl a = rw (eq-eqb (a .value) (a .value) refl, beq-refl (a .reverse), beq-refl (a .level2))
+use Rattle.days.specs.Agree.{agree, sameFlags, sameDay, joinDay}
+use Rattle.days.proofs.Agree.{same-half-refl}
 
 agree-table : (f : ℕ → Half) (k m : ℕ) → agree (table k f) (table m f) ≡ true
 unfolding table

@@ -1,3 +1,4 @@
+pub mod Agree
 pub mod Cut
 pub mod Offer
 pub mod Fold

@@ -22,6 +22,13 @@ table-at zero f i z l = absurd (omega arith)
 table-at (suc n) f zero z l = refl
 table-at (suc n) f (suc i) z l = table-at n (λ i. f (suc i)) i z (omega arith)
 
+-- past the last
+pub table-out : {A : Type 0} (n : ℕ) (f : ℕ → A) (i : ℕ) (z : A) → n ≤ i → getD (table n f) i z ≡ z
+unfolding table
+table-out zero f i z l = refl
+table-out (suc n) f zero z l = absurd (omega arith)
+table-out (suc n) f (suc i) z l = table-out n (λ i. f (suc i)) i z (omega arith)
+
 pub table-same : {A : Type 0} (n : ℕ) (f g : ℕ → A) → ((i : ℕ) → i < n → f i ≡ g i) → table n f ≡ table n g
 unfolding table
 table-same zero f g e = refl

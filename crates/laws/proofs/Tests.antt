@@ -130,6 +130,12 @@ unfolding sumBelow
 sum-below f zero m e = omega arith
 sum-below f (suc n) m e = omega (arith, sum-below f n m (λ i l. e i (omega arith)), e n (omega arith))
 
+-- what f adds beyond g
+pub sum-less : (f g : ℕ → ℕ) (n : ℕ) → ((i : ℕ) → i < n → g i ≤ f i) → sumBelow (λ i. f i - g i) n + sumBelow g n ≡ sumBelow f n
+unfolding sumBelow
+sum-less f g zero e = refl
+sum-less f g (suc n) e = omega (arith, sum-less f g n (λ i l. e i (omega arith)), e n (omega arith))
+
 -- nothing is added from k on
 pub sum-tail : (f : ℕ → ℕ) (k n : ℕ) → k ≤ n → ((i : ℕ) → k ≤ i → i < n → f i ≡ 0) → sumBelow f n ≡ sumBelow f k
 unfolding sumBelow

@@ -21,7 +21,7 @@ use Rattle.store.specs.Store.{Fits, store}
 use Rattle.recorder.specs.Recorder.{Recorder, Event, Clock, On, mem, capOf}
 use Rattle.recorder.specs.Range.{inRange}
 use Rattle.recorder.specs.Answer.{mostUnits, unitsAfter, eventAnswer, inTime, checks, answerWith, answerOf}
-use Rattle.recorder.specs.Needs.{Good, Clears, Goes}
+use Rattle.recorder.specs.Needs.{Good, Goes, Resets, Flaggable}
 use Rattle.recorder.proofs.Ranges.{Ranges, ranges, countable}
 
 pub range-counts : (r : Recorder) (b : Bool) → b ≡ inRange r → not b ≡ false → Countable (r .identity .weight) (r .energy)
@@ -75,6 +75,7 @@ days-few Blank = omega arith
 
 module _ (r : Recorder) (e : Event) (v s m : List ℕ) (a : answerOf (mem r v s m) e ≡ 0) where
   none : NoneFails (checks r e (length v) (length s) (length m))
+  unfolding answerOf
   none = answered r e (length v) (length s) (length m) a
 
   pub accepted-ranges : Ranges r
@@ -91,8 +92,12 @@ module _ (r : Recorder) (e : Event) (v s m : List ℕ) (a : answerOf (mem r v s 
   pub accepted-good : Good (mem r v s m)
   accepted-good = let g = accepted-ranges in record { time = g .time; days = g .days-high; total = g .total; fits = accepted-fits }
 
-  pub accepted-clears : Clears (mem r v s m)
-  accepted-clears = record { good = accepted-good; count = accepted-ranges .count }
+  pub accepted-flags : Flaggable r m
+  accepted-flags =
+      record { time = accepted-ranges .time; words = record { some = accepted-fits .some; most = accepted-fits .most; marks = accepted-fits .marks } }
+
+  pub accepted-resets : Resets r
+  accepted-resets = record { time = accepted-ranges .time; count = accepted-ranges .count }
 
   goes : (t : ℕ) → not (inTime (r .clock .time) t) ≡ false → Goes t (mem r v s m)
   goes t f =

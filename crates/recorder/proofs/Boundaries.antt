@@ -1,37 +1,33 @@
 -- Boundaries one after another: once the running half-hour has ended, the others touch the store and the clock alone.
 -- Assumes nothing.
 use Prim.Native.Nat.{ℕ, zero, suc, _+_, _-_, _*_, _/_, _%_, _<_, _≤_, max, min}
-use mathlib.Core.Bool.{Bool, true, false, cond}
+use mathlib.Core.Bool.{Bool, true, false}
 use mathlib.Core.List.{List}
 use mathlib.Core.Path.{_≡_, refl, sym, ap, _∙_}
 use native.Mathlib.Decide.{decLt}
 use native.Mathlib.Omega.{arith}
-use lib.Dec.{eqb, lit<}
 use borrow.Author.Tests.{eqb-true, eqb-false}
+use lib.Dec.{eqb}
 use Rattle.laws.specs.Each.{each, forTo}
-use Rattle.laws.proofs.Split.{by-test, by-dec}
 use Rattle.laws.proofs.Loop.{for-on}
-use Rattle.quantity.specs.declared.CentiKilowatts.{CentiKilowatts}
+use Rattle.laws.proofs.Split.{by-test, by-dec}
 use Rattle.quantity.specs.declared.RegisterUnits.{RegisterUnits}
-use Rattle.quantity.specs.Units.{units, centiKilowatts, lastFour, advanceOf, demandOf}
+use Rattle.quantity.specs.Units.{centiKilowatts, lastFour}
 use Rattle.registers.specs.declared.Demand.{Demand}
-use Rattle.registers.specs.Demand.{larger, demandRaised}
-use Rattle.registers.specs.Time.{halfHour}
+use Rattle.registers.specs.declared.Present.{Present}
+use Rattle.registers.specs.Demand.{demandRaised, demandClosed}
+use Rattle.registers.specs.Energy.{runningFrom}
+use Rattle.registers.specs.Present.{presentAt}
+use Rattle.registers.specs.Time.{halfHour, daySeconds, endHalf}
 use Rattle.store.specs.Class.{dayValues}
 use Rattle.store.specs.Store.{Store, store, turned, passAt, passed, gone}
+use Rattle.store.specs.Store as onward
 use Rattle.store.proofs.Laws.{gone-fits}
-use Rattle.recorder.specs.Recorder.{Recorder, Mem, mem, with, capOf, halfOf, readingNow, withDemand, withRunning, clockIs}
-use Rattle.recorder.specs.Boundary.{demandNow, ended, daysAfter, closeOne, closeAt, advanceTo, daysAt, goneTo, storeAt}
+use Rattle.recorder.specs.Recorder.{Recorder, Mem, mem, with, capOf, halfOf, readingNow, withClock, withDemand, withRunning}
+use Rattle.recorder.specs.Boundary.{ended, daysAfter, closeOne, closeAt, advanceTo, goneTo, storeAt}
 use Rattle.recorder.specs.Needs.{Good, Goes}
 
--- what the code makes of the running half-hour's end
-pub ended-done : (r : Recorder) (reading value before advance : RegisterUnits) (x : CentiKilowatts) (d : Demand)
-    → reading ≡ readingNow r → value ≡ lastFour reading → before ≡ lastFour (r .running .base) → advance ≡ advanceOf value before → x ≡ demandOf advance → d ≡ demandRaised x (r .demand)
-    → withDemand d (withRunning (record { base = reading; reverse = false; level2 = false }) r) ≡ ended r
-unfolding ended
-ended-done r reading value before advance x d a b c e f g = rw (g, f, e, c, b, a)
-
--- a half-hour that begins and ends at one reading has no demand
+-- a half-hour that begins and ends at one reading has no demand, so a second end changes nothing
 no-advance : (n : ℕ) → 2 * ((n % 10000 % 10000 + 10000 - n % 10000 % 10000) % 10000 % 10000) ≡ 0
 no-advance n = omega arith
 
@@ -40,25 +36,31 @@ raised-none d =
     let e : max (d .current .0) 0 ≡ d .current .0 = omega arith in
     ap {B = Demand} (λ (k : ℕ). record { current = centiKilowatts k; previous = d .previous; cumulative = d .cumulative; reset = d .reset; count = d .count }) e
 
-pub ended-twice : (r : Recorder) → ended (ended r) ≡ ended r
+ended-twice : (r : Recorder) → ended (ended r) ≡ ended r
 unfolding ended
 ended-twice r =
-    let begun = withRunning (record { base = readingNow r; reverse = false; level2 = false }) r in
-    let d = demandRaised (demandNow r) (r .demand) in
+    let begun = withRunning (runningFrom (readingNow r)) r in
+    let d = demandClosed (r .energy) (r .running) (r .demand) in
     ap (λ (k : ℕ). withDemand (demandRaised (centiKilowatts k) d) begun) (no-advance (readingNow r .0))
     ∙ ap (λ (e : Demand). withDemand e begun) (raised-none d)
 
--- a boundary of a half-hour that has just begun, i, and n such from there on
+-- a recorder at a time, with so many days stored, beside a store
+abbrev at : ℕ → Bool → ℕ → Recorder → Store → Mem
+at t on days r s = record { recorder = withClock (record { time = t; on = on; days = days }) r; store = s }
+
+-- a boundary that ends a half-hour just begun, i
+abbrev passes : Recorder → ℕ → Store → Store
+passes r i s = passAt (capOf r) (lastFour (readingNow r) .0) (readingNow r .0) i s
+
 one-passed : (i days : ℕ) (on : Bool) (r : Recorder) (s : Store)
-    → closeOne (record { recorder = clockIs (i * halfHour) on days (ended r); store = s })
-    ≡ record { recorder = clockIs ((i + 1) * halfHour) on (daysAfter (capOf r) i days) (ended r); store = passAt (capOf r) (lastFour (readingNow r) .0) (readingNow r .0) i s }
+    → closeOne (at (i * halfHour) on days (ended r) s) ≡ at ((i + 1) * halfHour) on (daysAfter (capOf r) i days) (ended r) (passes r i s)
 unfolding closeOne ended
 one-passed i days on r s =
     let h : i * halfHour / halfHour ≡ i = omega arith in
-    let after = passAt (capOf r) (lastFour (readingNow r) .0) (readingNow r .0) in
-    ap {B = Mem} (λ (k : ℕ). record { recorder = clockIs ((k + 1) * halfHour) on (daysAfter (capOf r) k days) (ended (ended r)); store = after k s }) h
-    ∙ ap {B = Mem} (λ (q : Recorder). record { recorder = clockIs ((i + 1) * halfHour) on (daysAfter (capOf r) i days) q; store = after i s }) (ended-twice r)
+    ap (λ (k : ℕ). at ((k + 1) * halfHour) on (daysAfter (capOf r) k days) (ended (ended r)) (passes r k s)) h
+    ∙ ap (λ (q : Recorder). at ((i + 1) * halfHour) on (daysAfter (capOf r) i days) q (passes r i s)) (ended-twice r)
 
+-- the days stored, boundary by boundary and at one go
 days-few : (cap i days : ℕ) → days ≤ cap → daysAfter cap i days ≤ cap
 days-few cap i days l = by-test (eqb ((i + 1) % dayValues) 0) (λ t. rw t (omega arith)) (λ t. rw t l)
 
@@ -69,12 +71,10 @@ days-on cap i n days l =
     (λ t. rw t (let h : (i + 1) % dayValues ≡ 0 = eqb-true _ _ t in omega arith))
     (λ t. rw t (let h : (i + 1) % dayValues ≡ 0 → ⊥ = eqb-false _ _ t in omega arith))
 
-pub passed-over : (n i days : ℕ) (on : Bool) (r : Recorder) (s : Store) → days ≤ capOf r
-    → each closeAt i n (record { recorder = clockIs (i * halfHour) on days (ended r); store = s })
-    ≡ record {
-      recorder = clockIs ((i + n) * halfHour) on (min (capOf r) (days + ((i + n) / dayValues - i / dayValues))) (ended r);
-      store = each (passAt (capOf r) (lastFour (readingNow r) .0) (readingNow r .0)) i n s;
-    }
+-- n such boundaries from i on
+passed-over : (n i days : ℕ) (on : Bool) (r : Recorder) (s : Store) → days ≤ capOf r
+    → each closeAt i n (at (i * halfHour) on days (ended r) s)
+    ≡ at ((i + n) * halfHour) on (min (capOf r) (days + ((i + n) / dayValues - i / dayValues))) (ended r) (each (passAt (capOf r) (lastFour (readingNow r) .0) (readingNow r .0)) i n s)
 unfolding each
 passed-over zero i days on r s l =
     let t : i + 0 ≡ i = omega arith in
@@ -83,12 +83,12 @@ passed-over zero i days on r s l =
 passed-over (suc n) i days on r s l =
     let t : i + suc n ≡ i + 1 + n = omega arith in
     rw (one-passed i days on r s, t, ← days-on (capOf r) i n days l)
-    (passed-over n (i + 1) (daysAfter (capOf r) i days) on r (passAt (capOf r) (lastFour (readingNow r) .0) (readingNow r .0) i s) (days-few (capOf r) i days l))
+    (passed-over n (i + 1) (daysAfter (capOf r) i days) on r (passes r i s) (days-few (capOf r) i days l))
 
--- Clock(t) past the end of the running half-hour: that one ends, and the others are passed over
-pub all-closed : (n : ℕ) (x : Mem) → x .recorder .clock .days ≤ capOf (x .recorder) → halfOf (x .recorder) < n
+-- all from the running half-hour up to a later one, n
+all-closed : (n : ℕ) (x : Mem) → x .recorder .clock .days ≤ capOf (x .recorder) → halfOf (x .recorder) < n
     → forTo closeAt (halfOf (x .recorder)) n x
-    ≡ record { recorder = clockIs (n * halfHour) (x .recorder .clock .on) (daysAt n (x .recorder)) (ended (x .recorder)); store = storeAt n (x .recorder) (x .store) }
+    ≡ at (n * halfHour) (x .recorder .clock .on) (min (capOf (x .recorder)) (x .recorder .clock .days + (n / dayValues - halfOf (x .recorder) / dayValues))) (ended (x .recorder)) (storeAt n (x .recorder) (x .store))
 unfolding closeOne passed gone
 all-closed n x few l =
     let r = x .recorder in
@@ -101,14 +101,22 @@ all-closed n x few l =
     ∙ rw (days-on (capOf r) q k (r .clock .days) few, e)
 
 -- Clock(t) within the running half-hour, and past its end
-pub stayed : (t : ℕ) (x : Mem) → halfOf (x .recorder) ≡ t / halfHour → advanceTo t x ≡ with x (clockIs t true (x .recorder .clock .days) (x .recorder))
+pub stayed : (t : ℕ) (x : Mem) → Goes t x → halfOf (x .recorder) ≡ t / halfHour → advanceTo t x ≡ with x (withClock (presentAt (capOf (x .recorder)) t (x .recorder .clock)) (x .recorder))
 unfolding advanceTo each
-stayed t x e = let z : t / halfHour - halfOf (x .recorder) ≡ 0 = omega arith in rw z
+stayed t x g e =
+    let r = x .recorder in
+    let z : t / halfHour - halfOf r ≡ 0 = omega arith in
+    let d : min (capOf r) (r .clock .days + (t / daySeconds - r .clock .time / daySeconds)) ≡ r .clock .days = omega (arith, g .good .days) in
+    rw (z, d)
 
-pub went : (t : ℕ) (x : Mem) → x .recorder .clock .days ≤ capOf (x .recorder) → halfOf (x .recorder) < t / halfHour
+pub went : (t : ℕ) (x : Mem) → Goes t x → halfOf (x .recorder) < t / halfHour
     → advanceTo t x ≡ record { recorder = goneTo t (x .recorder); store = storeAt (t / halfHour) (x .recorder) (x .store) }
 unfolding advanceTo
-went t x few l = ap (λ (y : Mem). with y (clockIs t true (y .recorder .clock .days) (y .recorder))) (all-closed (t / halfHour) x few l)
+went t x g l =
+    let r = x .recorder in
+    let d : t / halfHour / dayValues - halfOf r / dayValues ≡ t / daySeconds - r .clock .time / daySeconds = omega arith in
+    ap (λ (y : Mem). with y (withClock (record { time = t; on = true; days = y .recorder .clock .days }) (y .recorder))) (all-closed (t / halfHour) x (g .good .days) l)
+    ∙ rw d
 
 -- so what is good stays good
 pub gone-good : (t : ℕ) (x : Mem) → Goes t x → Good (advanceTo t x)
@@ -116,26 +124,39 @@ unfolding ended
 gone-good t x g =
     let r = x .recorder in
     by-dec (decLt (halfOf r) (t / halfHour))
-    (λ l. rw (went t x (g .good .days) l)
+    (λ l. rw (went t x g l)
     record {
       time = g .to;
       days = omega arith;
       total = g .good .total;
       fits = gone-fits (capOf r) (halfOf r) (t / halfHour) (lastFour (readingNow r) .0) (readingNow r .0) (r .running .reverse) (r .running .level2) (x .store) (storeAt (t / halfHour) r (x .store)) refl (g .good .fits);
     })
-    (λ n. rw (stayed t x (omega (arith, g .from))) record { time = g .to; days = g .good .days; total = g .good .total; fits = g .good .fits })
+    (λ n. rw (stayed t x g (omega (arith, g .from))) record { time = g .to; days = omega (arith, g .good .days); total = g .good .total; fits = g .good .fits })
 
--- as the code goes about it
-pub still-here : (t : ℕ) (r y : Recorder) (v s m : List ℕ) → halfOf r ≡ t / halfHour → y ≡ clockIs t true (r .clock .days) r → mem y v s m ≡ advanceTo t (mem r v s m)
-still-here t r y v s m e p = rw p (sym (stayed t (mem r v s m) e))
+-- as the code goes about it: p is the present at t
+module _ (t cap : ℕ) (r : Recorder) (p : Present) (v s m : List ℕ) (g : Goes t (mem r v s m)) (k : cap ≡ capOf r) (a : p ≡ presentAt cap t (r .clock)) where
+  present : p ≡ presentAt (capOf r) t (r .clock)
+  present = a ∙ rw k
 
-pub carried-on : (cap n value start : ℕ) (r : Recorder) (x y : Store) → cap ≡ capOf r → value ≡ lastFour (readingNow r) .0 → start ≡ readingNow r .0
-    → y ≡ gone cap (halfOf r) n value start (r .running .reverse) (r .running .level2) x → y ≡ storeAt n r x
-carried-on cap n value start r x y a b c e = e ∙ rw (a, b, c)
+  within : (n : ℕ) → n ≡ p .time / halfHour → n ≡ t / halfHour
+  within n c = c ∙ ap (λ (q : Present). q .time / halfHour) a
 
-pub gone-on : (t : ℕ) (r y : Recorder) (v s m v₁ s₁ m₁ : List ℕ) → Goes t (mem r v s m) → (halfOf r ≡ t / halfHour → ⊥)
-    → store v₁ s₁ m₁ ≡ storeAt (t / halfHour) r (store v s m) → y ≡ goneTo t r → mem y v₁ s₁ m₁ ≡ advanceTo t (mem r v s m)
-gone-on t r y v s m v₁ s₁ m₁ g ne p f =
-    ap {B = Mem} (λ (w : Recorder). record { recorder = w; store = store v₁ s₁ m₁ }) f
-    ∙ ap {B = Mem} (λ (w : Store). record { recorder = goneTo t r; store = w }) p
-    ∙ sym (went t (mem r v s m) (g .good .days) (omega (arith, g .from)))
+  pub still-here : (q n : ℕ) (y : Recorder) → q ≡ halfOf r → n ≡ p .time / halfHour → q ≡ n → y ≡ withClock p r → mem y v s m ≡ advanceTo t (mem r v s m)
+  still-here q n y b c e f =
+      ap {B = Mem} (λ (w : Recorder). record { recorder = w; store = store v s m }) (f ∙ ap (λ (w : Present). withClock w r) present)
+      ∙ sym (stayed t (mem r v s m) g (sym b ∙ e ∙ within n c))
+
+  pub gone-on : (q n : ℕ) (y z : Recorder) (v₁ s₁ m₁ : List ℕ) → q ≡ halfOf r → n ≡ p .time / halfHour → (q ≡ n → ⊥)
+      → store v₁ s₁ m₁ ≡ storeAt n r (store v s m) → y ≡ ended r → z ≡ withClock p y → mem z v₁ s₁ m₁ ≡ advanceTo t (mem r v s m)
+  gone-on q n y z v₁ s₁ m₁ b c ne e f h =
+      let l : halfOf r < t / halfHour = omega (arith, g .from, within n c) in
+      ap {B = Mem} (λ (w : Recorder). record { recorder = w; store = store v₁ s₁ m₁ }) (h ∙ rw (f, present))
+      ∙ ap {B = Mem} (λ (w : Store). record { recorder = goneTo t r; store = w }) (e ∙ rw (within n c))
+      ∙ sym (went t (mem r v s m) g l)
+
+pub carried-on : (cap q n : ℕ) (u : RegisterUnits) (r : Recorder) (x y : Store) → cap ≡ capOf r → q ≡ halfOf r → u ≡ readingNow r
+    → y ≡ gone cap q n (lastFour u .0) (u .0) (r .running .reverse) (r .running .level2) x → y ≡ storeAt n r x
+carried-on cap q n u r x y a b c e = e ∙ rw (a, b, c)
+
+pub carry-goes : (cap q : ℕ) (u : RegisterUnits) (r : Recorder) (v s m : List ℕ) → Good (mem r v s m) → cap ≡ capOf r → q < endHalf → u ≡ readingNow r → onward.Goes cap q u (store v s m)
+carry-goes cap q u r v s m g a l c = rw (a, c) record { turns = record { fits = g .fits; next = omega arith }; reading = omega (arith, g .total) }

@@ -12,9 +12,10 @@ use Rattle.laws.proofs.Tests.{allTrue-each, allTrue-of, all-at, all-of}
 use Rattle.quantity.specs.Units.{totalRound, readingRound, demandRound}
 use Rattle.registers.specs.Demand.{demandTests, countRound}
 use Rattle.registers.specs.Energy.{leastWeight, mostWeight, weightOk, rateCount, rateOk, rateTest, ratesOk, noEnergy, energyTests, Countable}
+use Rattle.registers.specs.Present.{presentTests}
 use Rattle.registers.specs.Time.{endDay, endTime}
 use Rattle.recorder.specs.Recorder.{Recorder, capOf, todayOf}
-use Rattle.recorder.specs.Range.{identityTests, clockTests, runningOk, groups, inRange}
+use Rattle.recorder.specs.Range.{identityTests, groups, inRange}
 
 pub record Ranges (r : Recorder) : Type 0 where
   pub identifier : idOk (r .identity .identifier) ≡ true
@@ -41,7 +42,7 @@ ranges r e =
     let g = allTrue-each (groups r) e in
     let i = allTrue-each (identityTests (r .identity)) (g .0) in
     let w = both (leb leastWeight (r .identity .weight .0)) (leb (r .identity .weight .0) mostWeight) (i .1 .0) in
-    let c = allTrue-each (clockTests r) (g .1 .0) in
+    let c = allTrue-each (presentTests (capOf r) (r .clock)) (g .1 .0) in
     let n = allTrue-each (energyTests (r .energy)) (g .1 .1 .0) in
     let a = both (leb 1 (r .energy .rate)) (leb (r .energy .rate) rateCount) (n .1 .0) in
     let d = allTrue-each (demandTests (r .demand)) (g .1 .1 .1 .0) in
@@ -74,7 +75,7 @@ in-range r g =
     allTrue-of (groups r) (
       allTrue-of (identityTests (r .identity)) (g .identifier, (both-of (leb leastWeight (r .identity .weight .0)) (leb (r .identity .weight .0) mostWeight) (le-leb _ _ (g .weight-low)) (le-leb _ _ (g .weight-high)), tt)),
       (
-        allTrue-of (clockTests r) (lt-ltb _ _ (g .time), (le-leb _ _ (g .days-low), (le-leb _ _ (g .days-high), (le-leb _ _ (g .days-past), tt)))),
+        allTrue-of (presentTests (capOf r) (r .clock)) (lt-ltb _ _ (g .time), (le-leb _ _ (g .days-low), (le-leb _ _ (g .days-high), (le-leb _ _ (g .days-past), tt)))),
         (
           allTrue-of (energyTests (r .energy)) (
             lt-ltb _ _ (g .total),

@@ -11,11 +11,12 @@ use Rattle.laws.proofs.Bools.{passed, failed}
 use Rattle.laws.proofs.Checks.{NoneFails, none-fails}
 use Rattle.laws.proofs.Tests.{allTrue-each}
 use Rattle.laws.specs.Tests.{allTrue}
+use Rattle.quantity.specs.declared.RegisterUnits.{RegisterUnits}
 use Rattle.quantity.specs.Units.{readingOf, lastFour}
 use Rattle.registers.specs.Time.{halfHour}
 use Rattle.store.specs.Begun.{begun}
 use Rattle.store.specs.Class.{daysOf, rightLengths}
-use Rattle.store.specs.Store.{Store, Fits, store}
+use Rattle.store.specs.Store.{Store, Fits, Goes, store}
 use Rattle.recorder.specs.declared.SetUp.{SetUp}
 use Rattle.recorder.specs.declared.Stepped.{Stepped}
 use Rattle.recorder.specs.Recorder.{Recorder, Mem, mem}
@@ -72,6 +73,9 @@ set-up-done g y a v s m v₁ s₁ m₁ p z e q =
     ∙ ap {B = Done} (λ (w : Store). record { answer = 0; carried = 0; after = record { recorder = fresh g; store = w } }) e
     ∙ rw (← p, z)
 
-pub store-begun : (g : SetUp) (cap value start : ℕ) (x : Store) → cap ≡ daysOf (g .class) → value ≡ lastFour (readingOf (g .total)) .0 → start ≡ readingOf (g .total) .0
-    → x ≡ begun cap (g .time / halfHour) value start → x ≡ storeBegun g
-store-begun g cap value start x a b c e = e ∙ rw (a, b, c)
+module _ (g : SetUp) (cap : ℕ) (u : RegisterUnits) (a : cap ≡ daysOf (g .class)) (b : u ≡ readingOf (g .total)) where
+  pub store-goes : (x : Store) → Begins g x → Goes cap (g .time / halfHour) u x
+  store-goes x h = rw (a, b) record { turns = record { fits = h .fits; next = omega (arith, h .time) }; reading = omega (arith, h .total) }
+
+  pub store-begun : (x : Store) → x ≡ begun cap (g .time / halfHour) (lastFour u .0) (u .0) → x ≡ storeBegun g
+  store-begun x e = e ∙ rw (a, b)

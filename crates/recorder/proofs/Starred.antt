@@ -11,12 +11,12 @@ use Rattle.store.specs.Begun.{filled, begun}
 use Rattle.recorder.specs.Range.{inRange}
 use Rattle.recorder.specs.Boundary.{ended, closeOne, advanceTo}
 use Rattle.recorder.specs.Effect.{flagToday, flagFrom, after}
-use Rattle.recorder.specs.Answer.{wrongPower, eventAnswer, answerWith}
+use Rattle.recorder.specs.Answer.{wrongPower, eventAnswer, answerWith, answerOf}
 use Rattle.recorder.specs.Step.{step, run}
-use Rattle.recorder.specs.SetUp.{setUpWith, fresh, made, setUp}
+use Rattle.recorder.specs.SetUp.{setUpWith, started, fresh, made, setUp}
 use Rattle.recorder.specs.Stored.{endedAt, advanced}
 use Rattle.recorder.specs.Cases.{Case, cases}
 
 pub starred : map (λ (c : Case). c .given) cases ≡ map (λ (c : Case). c .due) cases
-unfolding each allBelow idOk ratesOk addedOf unitsWith energyCounted pushAt closed opened turned flagAt flagged filled begun inRange ended closeOne advanceTo flagToday flagFrom after wrongPower eventAnswer answerWith step run setUpWith fresh made setUp endedAt advanced
+unfolding each allBelow idOk ratesOk addedOf unitsWith energyCounted pushAt closed opened turned flagAt flagged filled begun inRange ended closeOne advanceTo flagToday flagFrom after wrongPower eventAnswer answerWith answerOf step run setUpWith started fresh made setUp endedAt advanced
 starred = refl

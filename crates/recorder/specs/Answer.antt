@@ -92,5 +92,5 @@ checks r e values starts marks =
 unfoldable pub answerWith : Recorder → Event → ℕ → ℕ → ℕ → ℕ
 answerWith r e values starts marks = firstFailing (checks r e values starts marks)
 
-abbrev pub answerOf : Mem → Event → ℕ
+unfoldable pub answerOf : Mem → Event → ℕ
 answerOf x e = answerWith (x .recorder) e (length (x .store .values)) (length (x .store .starts)) (length (x .store .marks))

@@ -4,7 +4,7 @@ use mathlib.Core.Bool.{Bool, true, false}
 use Rattle.registers.specs.Demand.{demandReset}
 use Rattle.registers.specs.Energy.{energyCounted, energyLast, energyRate}
 use Rattle.store.specs.Store.{store, flagAt, flagged}
-use Rattle.recorder.specs.Recorder.{Recorder, Mem, Event, Count, Clock, Off, On, Access, Meter, Reset, Rate, Reverse, with, capOf, todayOf, withEnergy, withDemand, withRunning, clockIs}
+use Rattle.recorder.specs.Recorder.{Recorder, Mem, Event, Count, Clock, Off, On, Access, Meter, Reset, Rate, Reverse, with, capOf, todayOf, withClock, withEnergy, withDemand, withRunning}
 use Rattle.recorder.specs.Boundary.{advanceTo}
 
 -- daily flags
@@ -27,7 +27,7 @@ abbrev pub rateIs : ℕ → Recorder → Recorder
 rateIs n r = withEnergy (energyRate n (r .energy)) r
 
 abbrev pub switchedOff : Recorder → Recorder
-switchedOff r = clockIs (r .clock .time) false (r .clock .days) r
+switchedOff r = withClock (record { time = r .clock .time; on = false; days = r .clock .days }) r
 
 abbrev pub wasReset : Recorder → Recorder
 wasReset r = withDemand (demandReset (todayOf r) (r .demand)) r

@@ -1,17 +1,16 @@
 -- The recorder beside the store that it is lent, by the names that the code declares.
 use Prim.Native.Nat.{ℕ, _/_}
-use mathlib.Core.Bool.{Bool}
 use mathlib.Core.List.{List}
 use Rattle.quantity.specs.declared.RegisterUnits.{RegisterUnits}
 use Rattle.quantity.specs.Units.{readingOf}
 use Rattle.registers.specs.declared.Demand.{Demand}
 use Rattle.registers.specs.declared.Energy.{Energy}
+use Rattle.registers.specs.declared.Present.{Present}
+use Rattle.registers.specs.declared.Running.{Running}
 use Rattle.registers.specs.Time.{halfHour, daySeconds}
 use Rattle.store.specs.Class.{daysOf}
 use Rattle.store.specs.Store.{Store, store}
 pub use Rattle.recorder.specs.declared.Identity.{Identity}
-pub use Rattle.recorder.specs.declared.Present.{Present}
-pub use Rattle.recorder.specs.declared.Running.{Running}
 pub use Rattle.recorder.specs.declared.Recorder.{Recorder}
 pub use Rattle.recorder.specs.declared.Event.{Event}
 pub use Rattle.recorder.specs.declared.Event.the-variants.{Count, Clock, Off, On, Access, Meter, Reset, Rate, Reverse}
@@ -51,6 +50,3 @@ withDemand d r = record { identity = r .identity; clock = r .clock; energy = r .
 
 abbrev pub withRunning : Running → Recorder → Recorder
 withRunning h r = record { identity = r .identity; clock = r .clock; energy = r .energy; demand = r .demand; running = h }
-
-abbrev pub clockIs : ℕ → Bool → ℕ → Recorder → Recorder
-clockIs t on days r = withClock (record { time = t; on = on; days = days }) r

@@ -9,9 +9,11 @@ use Rattle.identifier.specs.Identifier.{idOk}
 use Rattle.laws.specs.Checks.{Check, check, firstFailing}
 use Rattle.laws.specs.Tests.{allTrue}
 use Rattle.quantity.specs.declared.WattHours.{WattHours}
-use Rattle.quantity.specs.Units.{totalRound, units, readingOf, lastFour}
+use Rattle.quantity.specs.Units.{totalRound, readingOf, lastFour}
+use Rattle.registers.specs.declared.Energy.{Energy}
+use Rattle.registers.specs.declared.Present.{Present}
 use Rattle.registers.specs.Demand.{noDemand}
-use Rattle.registers.specs.Energy.{noEnergy, weightOk, rateCount}
+use Rattle.registers.specs.Energy.{noEnergy, weightOk, energyFrom, runningFrom}
 use Rattle.registers.specs.Time.{halfHour, endTime}
 use Rattle.store.specs.declared.Class.{Class}
 use Rattle.store.specs.declared.Class.the-variants.{Blank}
@@ -19,7 +21,7 @@ use Rattle.store.specs.Begun.{begun}
 use Rattle.store.specs.Class.{daysOf, rightLengths}
 use Rattle.store.specs.Store.{Store}
 use Rattle.recorder.specs.declared.SetUp.{SetUp}
-use Rattle.recorder.specs.Recorder.{Recorder, Mem}
+use Rattle.recorder.specs.Recorder.{Identity, Recorder, Mem}
 use Rattle.recorder.specs.Step.{Done}
 
 abbrev pub given : List ℕ → Class → WattHours → ℕ → WattHours → ℕ → SetUp
@@ -42,26 +44,18 @@ setUpWith s values starts marks = firstFailing (setUpChecks s values starts mark
 abbrev pub setUpAnswer : SetUp → Store → ℕ
 setUpAnswer s x = setUpWith s (length (x .values)) (length (x .starts)) (length (x .marks))
 
+-- demands and reset count zero, no reset, the running half-hour unmarked and at the present reading
+unfoldable pub started : Identity → Present → Energy → Recorder
+started identity clock energy =
+    record { identity = identity; clock = clock; energy = energy; demand = noDemand; running = runningFrom (readingOf (energy .total)) }
+
 unfoldable pub fresh : SetUp → Recorder
 fresh s =
-    record {
-      identity = record { identifier = s .identifier; class = s .class; weight = s .weight };
-      clock = record { time = s .time; on = true; days = 1 };
-      energy = record { total = s .total; last = s .counter; rate = 1; rates = replicate rateCount noEnergy };
-      demand = noDemand;
-      running = record { base = readingOf (s .total); reverse = false; level2 = false };
-    }
+    started (record { identifier = s .identifier; class = s .class; weight = s .weight }) (record { time = s .time; on = true; days = 1 }) (energyFrom (s .total) (s .counter) 1)
 
 -- no class, and zeros
 unfoldable pub blank : Recorder
-blank =
-    record {
-      identity = record { identifier = replicate 12 0; class = Blank; weight = noEnergy };
-      clock = record { time = 0; on = false; days = 0 };
-      energy = record { total = noEnergy; last = 0; rate = 0; rates = replicate rateCount noEnergy };
-      demand = noDemand;
-      running = record { base = units 0; reverse = false; level2 = false };
-    }
+blank = started (record { identifier = replicate 12 0; class = Blank; weight = noEnergy }) (record { time = 0; on = false; days = 0 }) (energyFrom noEnergy 0 0)
 
 abbrev pub storeBegun : SetUp → Store
 storeBegun s =

@@ -1,47 +1,33 @@
 // The recorder of one circuit, by value, over a store of days that it is lent: set-up, and one step for each event.
 // A call hands back the recorder, the answer number and what it carries; a refusal leaves recorder and store as they were.
 ghost use mathlib.Core.Path.{_≡_};
-ghost use mathlib.Core.Bool.{true, not, cond};
-ghost use Prim.Native.Nat.{max, min, _<_, _≤_, _+_, _-_, _/_};
+ghost use mathlib.Core.Bool.{not, cond};
+ghost use Prim.Native.Nat.{max, _<_, _≤_, _+_, _-_, _/_};
 ghost use lib.Dec.{ltb};
-ghost use lib.ListN.{length};
 ghost use Rattle.laws.specs.Tests.{allTrue};
 ghost use Rattle.registers.specs.Energy.{Countable, rateOk};
-ghost use Rattle.registers.specs.Time.{halfHour, endDay, endTime};
+ghost use Rattle.registers.specs.Time.{halfHour};
 ghost use Rattle.store.specs.Class.{mostDays};
-ghost use Rattle.store.specs.Store.{Fits, Words, store, flagAt, flagged};
-ghost use Rattle.recorder.specs.Recorder.{mem, capOf, halfOf, todayOf, clockIs};
-ghost use Rattle.recorder.specs.Range.{identityTests, clockTests, runningOk, inRange};
-ghost use Rattle.recorder.specs.Boundary.{ended, daysAt, goneTo, storeAt, advanceTo};
-ghost use Rattle.recorder.specs.Effect.{counted, lastIs, rateIs, wasReset, switchedOff, accessed, reversed, firstFlagged, turnedOn, metered, cleared, after};
+ghost use Rattle.store.specs.Store.{store, flagAt, flagged};
+ghost use Rattle.recorder.specs.Recorder.{mem, capOf, todayOf, withClock};
+ghost use Rattle.recorder.specs.Range.{identityTests, inRange};
+ghost use Rattle.recorder.specs.Boundary.{ended, storeAt, advanceTo};
+ghost use Rattle.recorder.specs.Effect.{counted, lastIs, rateIs, wasReset, switchedOff, accessed, reversed, firstFlagged, turnedOn, after};
 ghost use Rattle.recorder.specs.Answer.{inTime, mostUnits, unitsAfter, eventAnswer, answerWith, answerOf};
 ghost use Rattle.recorder.specs.Step.{done, step};
-ghost use Rattle.recorder.specs.SetUp.{given, setUpTests, setUpWith, fresh, storeBegun, blank, setUp};
-ghost use Rattle.recorder.specs.Needs.{Begins, Good, Later, Goes, Resets, Clears, Flaggable};
-use quantity::RegisterUnits;
+ghost use Rattle.recorder.specs.SetUp.{given, setUpTests, setUpWith, started, fresh, storeBegun, blank, setUp};
+ghost use Rattle.recorder.specs.Needs.{Begins, Good, Goes, Resets, Flaggable};
 use quantity::WattHours;
 use registers::Demand;
 use registers::Energy;
+use registers::Present;
+use registers::Running;
 use store::Class;
 
 pub struct Identity {
     pub identifier: [u8; 12],
     pub class: Class,
     pub weight: WattHours,
-}
-
-// The present time, whether power is on, and the days stored.
-pub struct Present {
-    pub time: u64,
-    pub on: bool,
-    pub days: u32,
-}
-
-// The running half-hour: the reading at its start, and its two marks.
-pub struct Running {
-    pub base: RegisterUnits,
-    pub reverse: bool,
-    pub level2: bool,
 }
 
 pub struct Recorder {
@@ -83,12 +69,6 @@ pub struct SetUp {
 
 const HALF_HOUR: u64 = 1800;
 
-const DAY: u64 = 86400;
-
-const END_TIME: u64 = 3155760000;
-
-const DAY_HALVES: u32 = 48;
-
 const MOST_UNITS: u64 = 9999;
 
 const POWER_LOST: u64 = 0x80;
@@ -101,12 +81,6 @@ fn larger(a: u32, b: u32) -> u32
     ensures { λ r. ⌜ r ≡ max a b ⌝ }
 {
     if a < b { b } else { a }
-}
-
-fn smaller(a: u32, b: u32) -> u32
-    ensures { λ r. ⌜ r ≡ min a b ⌝ }
-{
-    if a < b { a } else { b }
 }
 
 fn less(a: u32, b: u32) -> u32
@@ -132,7 +106,11 @@ fn power_answer(wrong: bool) -> u32
 fn time_answer(wrong: bool, now: u64, t: u64) -> u32
     ensures { λ r. ⌜ r ≡ cond wrong 1 (cond (not (inTime now t)) 2 0) ⌝ }
 {
-    first_of(wrong, 1, first_of(!((now <= t) & (t < END_TIME)), 2, 0))
+    first_of(
+        wrong,
+        1,
+        first_of(!((now <= t) & (t < registers::END_TIME)), 2, 0),
+    )
 }
 
 fn rate_answer(wrong: bool, n: u32) -> u32
@@ -141,36 +119,34 @@ fn rate_answer(wrong: bool, n: u32) -> u32
     first_of(wrong, 1, first_of(!registers::rate_ok(n), 6, 0))
 }
 
-impl Recorder {
-    // ---- ranges
-
-    fn identity_ok(self) -> bool
-        ensures { λ r. ⌜ r ≡ allTrue (identityTests (self .identity)) ⌝ }
+impl Identity {
+    fn in_range(self) -> bool
+        ensures { λ r. ⌜ r ≡ allTrue (identityTests self) ⌝ }
     {
-        let identity = self.identity;
-        let id = identity.identifier;
-        identifier::valid(id) & registers::weight_ok(identity.weight)
+        let id = self.identifier;
+        identifier::valid(id) & registers::weight_ok(self.weight)
     }
+}
 
-    fn clock_ok(self) -> bool
-        ensures { λ r. ⌜ r ≡ allTrue (clockTests self) ⌝ }
+impl Recorder {
+    // The days that the class holds.
+    pub fn cap(self) -> u32
+        ensures { λ r. ⌜ (r ≡ capOf self) × (r ≤ mostDays) ⌝ }
     {
         let identity = self.identity;
         let class = identity.class;
-        let days = self.clock.days;
-        (self.clock.time < END_TIME)
-            & (1 <= days)
-            & (days <= class.days())
-            & ((days as u64) <= self.clock.time / DAY + 1)
+        class.days()
     }
 
-    fn in_range(self) -> bool
+    pub fn in_range(self) -> bool
         ensures { λ r. ⌜ r ≡ inRange self ⌝ }
     {
+        let identity = self.identity;
+        let clock = self.clock;
         let energy = self.energy;
         let demand = self.demand;
-        self.identity_ok()
-            & self.clock_ok()
+        identity.in_range()
+            & clock.in_range(self.cap())
             & energy.in_range()
             & demand.in_range()
             & (self.running.base.0 < quantity::READING_ROUND)
@@ -230,12 +206,29 @@ impl Recorder {
 
     // ---- effects on the recorder alone
 
-    fn with_clock(mut self, time: u64, on: bool, days: u32) -> Recorder
-        ensures { λ r. ⌜ r ≡ clockIs time on days self ⌝ }
+    fn counted(mut self, c: u32) -> Recorder
+        requires { ⌜ Countable (self .identity .weight) (self .energy) ⌝ }
+        ensures { λ r. ⌜ r ≡ counted c self ⌝ }
     {
-        self.clock.time = time;
-        self.clock.on = on;
-        self.clock.days = days;
+        let identity = self.identity;
+        let energy = self.energy;
+        self.energy = energy.counted(identity.weight, c);
+        self
+    }
+
+    // Another meter, whose counter stands at c.
+    fn metered(mut self, c: u32) -> Recorder
+        ensures { λ r. ⌜ r ≡ accessed (lastIs c self) ⌝ }
+    {
+        self.energy.last = c;
+        self.running.level2 = true;
+        self
+    }
+
+    fn rate_is(mut self, n: u32) -> Recorder
+        ensures { λ r. ⌜ r ≡ rateIs n self ⌝ }
+    {
+        self.energy.rate = n;
         self
     }
 
@@ -260,43 +253,14 @@ impl Recorder {
         self
     }
 
-    fn counted(mut self, c: u32) -> Recorder
-        requires { ⌜ Countable (self .identity .weight) (self .energy) ⌝ }
-        ensures { λ r. ⌜ r ≡ counted c self ⌝ }
-    {
-        let identity = self.identity;
-        let energy = self.energy;
-        self.energy = energy.counted(identity.weight, c);
-        self
-    }
-
-    fn last_is(mut self, c: u32) -> Recorder
-        ensures { λ r. ⌜ r ≡ lastIs c self ⌝ }
-    {
-        self.energy.last = c;
-        self
-    }
-
-    fn rate_is(mut self, n: u32) -> Recorder
-        ensures { λ r. ⌜ r ≡ rateIs n self ⌝ }
-    {
-        self.energy.rate = n;
-        self
-    }
-
-    fn today(self) -> u32
-        requires { ⌜ self .clock .time < endTime ⌝ }
-        ensures { λ r. ⌜ (r ≡ todayOf self) × (r < endDay) ⌝ }
-    {
-        (self.clock.time / DAY) as u32
-    }
-
     fn was_reset(mut self) -> Recorder
         requires { ⌜ Resets self ⌝ }
-        ensures { λ r. ⌜ r ≡ wasReset self ⌝ }
+        ensures { λ r. ⌜ r ≡ accessed (wasReset self) ⌝ }
     {
+        let clock = self.clock;
         let demand = self.demand;
-        self.demand = demand.reset_on(self.today());
+        self.demand = demand.reset_on(clock.today());
+        self.running.level2 = true;
         self
     }
 
@@ -307,52 +271,19 @@ impl Recorder {
         let energy = self.energy;
         let running = self.running;
         let demand = self.demand;
-        let reading = energy.total.reading();
-        let value = reading.last_four();
-        let before = running.base.last_four();
-        let advance = value.advance_from(before);
-        let raised = demand.raised(advance.demand());
-        let next = Running {
-            base: reading,
-            reverse: false,
-            level2: false,
-        };
-        self.demand = raised;
-        self.running = next;
+        self.demand = demand.closed(energy, running);
+        self.running = energy.begun();
+        self
+    }
+
+    fn with_clock(mut self, clock: Present) -> Recorder
+        ensures { λ r. ⌜ r ≡ withClock clock self ⌝ }
+    {
+        self.clock = clock;
         self
     }
 
     // ---- effects on the store
-
-    // The days that the class holds.
-    fn cap(self) -> u32
-        ensures { λ r. ⌜ (r ≡ capOf self) × (r ≤ mostDays) ⌝ }
-    {
-        let identity = self.identity;
-        let class = identity.class;
-        class.days()
-    }
-
-    // The days stored when time has gone on to a later half-hour.
-    fn days_at(self, to: u32) -> u32
-        requires { ⌜ Later to self ⌝ }
-        ensures { λ r. ⌜ r ≡ daysAt to self ⌝ }
-    {
-        let from = (self.clock.time / HALF_HOUR) as u32;
-        smaller(
-            self.cap(),
-            self.clock.days + (to / DAY_HALVES - from / DAY_HALVES),
-        )
-    }
-
-    // The recorder when time has gone on to t, in a later half-hour.
-    fn gone_to(self, t: u64) -> Recorder
-        requires { ⌜ Later (t / halfHour) self ⌝ }
-        ensures { λ r. ⌜ r ≡ goneTo t self ⌝ }
-    {
-        let days = self.days_at((t / HALF_HOUR) as u32);
-        self.ended().with_clock(t, true, days)
-    }
 
     // The store when time has gone on to a later half-hour.
     fn carry_to(self, to: u32, values: &mut [u16], starts: &mut [u32], marks: &mut [u64])
@@ -360,15 +291,14 @@ impl Recorder {
         ensures { λ _. ⌜ store (now (values .exit)) (now (starts .exit)) (now (marks .exit))
             ≡ storeAt to self (store (now (values .entry)) (now (starts .entry)) (now (marks .entry))) ⌝ }
     {
-        let from = (self.clock.time / HALF_HOUR) as u32;
+        let clock = self.clock;
         let energy = self.energy;
         let running = self.running;
         store::go_on(
             self.cap(),
-            from,
+            clock.half(),
             to,
-            registers::value_of(energy.total),
-            registers::start_of(energy.total),
+            energy.total.reading(),
             running.reverse,
             running.level2,
             values,
@@ -389,12 +319,14 @@ impl Recorder {
         ensures { λ r. ⌜ mem r (now (values .exit)) (now (starts .exit)) (now (marks .exit))
             ≡ advanceTo t (mem self (now (values .entry)) (now (starts .entry)) (now (marks .entry))) ⌝ }
     {
-        let to = (t / HALF_HOUR) as u32;
-        if (self.clock.time / HALF_HOUR) as u32 == to {
-            return self.with_clock(t, true, self.clock.days);
+        let clock = self.clock;
+        let next = clock.gone_to(self.cap(), t);
+        let to = next.half();
+        if clock.half() == to {
+            return self.with_clock(next);
         }
         self.carry_to(to, values, starts, marks);
-        self.gone_to(t)
+        self.ended().with_clock(next)
     }
 
     // Today gets a flag.
@@ -402,7 +334,8 @@ impl Recorder {
         requires { ⌜ Flaggable self (now marks) ⌝ }
         ensures { λ _. ⌜ now (marks .exit) ≡ flagAt (capOf self) flag (todayOf self) (now (marks .entry)) ⌝ }
     {
-        store::flag_day(self.cap(), self.today(), flag, marks);
+        let clock = self.clock;
+        store::flag_day(self.cap(), clock.today(), flag, marks);
     }
 
     // Every stored day from one on to today gets it.
@@ -410,8 +343,9 @@ impl Recorder {
         requires { ⌜ Flaggable self (now marks) ⌝ }
         ensures { λ _. ⌜ now (marks .exit) ≡ flagged (capOf self) (firstFlagged self from) (todayOf self + 1) flag (now (marks .entry)) ⌝ }
     {
-        let end = self.today() + 1;
-        let first = larger(from, less(end, self.clock.days));
+        let clock = self.clock;
+        let end = clock.today() + 1;
+        let first = larger(from, less(end, clock.days));
         store::flag_days(self.cap(), first, end, flag, marks);
     }
 
@@ -421,31 +355,9 @@ impl Recorder {
         ensures { λ r. ⌜ mem r (now (values .exit)) (now (starts .exit)) (now (marks .exit))
             ≡ turnedOn t (mem self (now (values .entry)) (now (starts .entry)) (now (marks .entry))) ⌝ }
     {
-        let off = self.today();
+        let clock = self.clock;
         let next = self.advance_to(t, values, starts, marks);
-        next.flag_from(off, POWER_LOST, marks);
-        next
-    }
-
-    // Meter(c).
-    fn metered(self, c: u32, values: &mut [u16], starts: &mut [u32], marks: &mut [u64]) -> Recorder
-        requires { ⌜ Good (mem self (now values) (now starts) (now marks)) ⌝ }
-        ensures { λ r. ⌜ mem r (now (values .exit)) (now (starts .exit)) (now (marks .exit))
-            ≡ metered c (mem self (now (values .entry)) (now (starts .entry)) (now (marks .entry))) ⌝ }
-    {
-        let next = self.last_is(c).accessed();
-        self.flag_today(METER_CHANGED, marks);
-        next
-    }
-
-    // Reset.
-    fn cleared(self, values: &mut [u16], starts: &mut [u32], marks: &mut [u64]) -> Recorder
-        requires { ⌜ Clears (mem self (now values) (now starts) (now marks)) ⌝ }
-        ensures { λ r. ⌜ mem r (now (values .exit)) (now (starts .exit)) (now (marks .exit))
-            ≡ cleared (mem self (now (values .entry)) (now (starts .entry)) (now (marks .entry))) ⌝ }
-    {
-        let next = self.was_reset().accessed();
-        self.flag_today(DEMAND_RESET, marks);
+        next.flag_from(clock.today(), POWER_LOST, marks);
         next
     }
 
@@ -467,10 +379,31 @@ impl Recorder {
             Event::Off => self.switched_off(),
             Event::On(t) => self.turn_on(t, values, starts, marks),
             Event::Access => self.accessed(),
-            Event::Meter(c) => self.metered(c, values, starts, marks),
-            Event::Reset => self.cleared(values, starts, marks),
+            Event::Meter(c) => {
+                self.flag_today(METER_CHANGED, marks);
+                self.metered(c)
+            }
+            Event::Reset => {
+                self.flag_today(DEMAND_RESET, marks);
+                self.was_reset()
+            }
             Event::Rate(n) => self.rate_is(n),
             Event::Reverse => self.reversed(),
+        }
+    }
+
+    // A recorder that begins with these.
+    fn started(identity: Identity, clock: Present, energy: Energy) -> Recorder
+        ensures { λ r. ⌜ r ≡ started identity clock energy ⌝ }
+    {
+        let demand = Demand::none();
+        let running = energy.begun();
+        Recorder {
+            identity: identity,
+            clock: clock,
+            energy: energy,
+            demand: demand,
+            running: running,
         }
     }
 
@@ -546,30 +479,17 @@ impl Recorder {
     pub fn blank() -> Recorder
         ensures { λ r. ⌜ r ≡ blank ⌝ }
     {
-        Recorder {
-            identity: Identity {
-                identifier: [0; 12],
-                class: Class::Blank,
-                weight: WattHours(0),
-            },
-            clock: Present {
-                time: 0,
-                on: false,
-                days: 0,
-            },
-            energy: Energy {
-                total: WattHours(0),
-                last: 0,
-                rate: 0,
-                rates: [WattHours(0); 8],
-            },
-            demand: Demand::none(),
-            running: Running {
-                base: RegisterUnits(0),
-                reverse: false,
-                level2: false,
-            },
-        }
+        let identity = Identity {
+            identifier: [0; 12],
+            class: Class::Blank,
+            weight: WattHours(0),
+        };
+        let clock = Present {
+            time: 0,
+            on: false,
+            days: 0,
+        };
+        Recorder::started(identity, clock, Energy::from(WattHours(0), 0, 0))
     }
 }
 
@@ -582,7 +502,7 @@ impl SetUp {
         identifier::valid(id)
             & (1 <= class.days())
             & registers::weight_ok(self.weight)
-            & (self.time < END_TIME)
+            & (self.time < registers::END_TIME)
             & (self.total.0 < quantity::TOTAL_ROUND)
     }
 
@@ -605,32 +525,17 @@ impl SetUp {
         let id = self.identifier;
         let class = self.class;
         let weight = self.weight;
-        let total = self.total;
-        let base = total.reading();
-        Recorder {
-            identity: Identity {
-                identifier: id,
-                class: class,
-                weight: weight,
-            },
-            clock: Present {
-                time: self.time,
-                on: true,
-                days: 1,
-            },
-            energy: Energy {
-                total: total,
-                last: self.counter,
-                rate: 1,
-                rates: [WattHours(0); 8],
-            },
-            demand: Demand::none(),
-            running: Running {
-                base: base,
-                reverse: false,
-                level2: false,
-            },
-        }
+        let identity = Identity {
+            identifier: id,
+            class: class,
+            weight: weight,
+        };
+        let clock = Present {
+            time: self.time,
+            on: true,
+            days: 1,
+        };
+        Recorder::started(identity, clock, Energy::from(self.total, self.counter, 1))
     }
 
     // The store as it begins.
@@ -639,10 +544,7 @@ impl SetUp {
         ensures { λ _. ⌜ store (now (values .exit)) (now (starts .exit)) (now (marks .exit)) ≡ storeBegun self ⌝ }
     {
         let class = self.class;
-        let total = self.total;
         let q = (self.time / HALF_HOUR) as u32;
-        let value = registers::value_of(total);
-        let start = registers::start_of(total);
-        store::begin(class.days(), q, value, start, values, starts, marks);
+        store::begin(class.days(), q, self.total.reading(), values, starts, marks);
     }
 }

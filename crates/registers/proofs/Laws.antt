@@ -2,13 +2,13 @@
 -- Assumes nothing.
 use Prim.Native.Nat.{ℕ, _+_, _-_, _*_, _/_, _%_, _^_, _<_, _≤_}
 use mathlib.Core.Path.{_≡_, refl, sym, ap, _∙_}
-use mir.Syntax.{w16, w32, w64}
+use mir.Syntax.{w64}
 use mir.Val.{Fits}
 use native.Mathlib.Nat.{mul-le-mul}
 use native.Mathlib.Omega.{arith}
 use Rattle.quantity.specs.declared.RegisterUnits.{RegisterUnits}
 use Rattle.quantity.specs.declared.WattHours.{WattHours}
-use Rattle.quantity.specs.Units.{totalRound, wattHours, units, readingOf, lastFour, readingGap}
+use Rattle.quantity.specs.Units.{wattHours, units, readingOf, readingGap}
 use Rattle.registers.specs.declared.Energy.{Energy}
 use Rattle.registers.specs.Energy.{Countable, mostWeight, mostAdded, pulsesOf, addedOf, unitsWith}
 
@@ -41,18 +41,3 @@ module _ (w : WattHours) (e : Energy) (g : Countable w e) (more : WattHours) (fe
       pub units-done : (c : ℕ) → more ≡ addedOf w (e .last) c → units (gap .0 + (then .0 - now .0)) ≡ units (unitsWith w base c e)
       unfolding unitsWith
       units-done c f = rw (d, b, a, f)
-
--- a value fits 16 bits, a start 32
-module _ (t : WattHours) (u : RegisterUnits) (a : u ≡ readingOf t) where
-  pub start-fits : t .0 < totalRound → Fits w32 (u .0)
-  start-fits l = rw a (omega arith)
-
-  pub start-done : u .0 ≡ readingOf t .0
-  start-done = rw a
-
-  module _ (v : RegisterUnits) (b : v ≡ lastFour u) where
-    pub value-fits : Fits w16 (v .0)
-    value-fits = rw b (omega arith)
-
-    pub value-done : v .0 ≡ lastFour (readingOf t) .0
-    value-done = rw (b, a)

@@ -8,6 +8,9 @@ use Rattle.laws.specs.Tests.{allTrue}
 use Rattle.quantity.specs.declared.CentiKilowatts.{CentiKilowatts}
 use Rattle.quantity.specs.Units.{demandRound, centiKilowatts, demandSum}
 use Rattle.registers.specs.declared.Demand.{Demand}
+use Rattle.registers.specs.declared.Energy.{Energy}
+use Rattle.registers.specs.declared.Running.{Running}
+use Rattle.registers.specs.Energy.{demandSince}
 use Rattle.registers.specs.Time.{endDay}
 
 -- a reset count has two digits
@@ -29,10 +32,13 @@ demandOk d = allTrue (demandTests d)
 abbrev pub larger : CentiKilowatts → CentiKilowatts → CentiKilowatts
 larger a b = centiKilowatts (max (a .0) (b .0))
 
--- a half-hour closes with the demand x
+-- the running half-hour ends
 abbrev pub demandRaised : CentiKilowatts → Demand → Demand
 demandRaised x d =
     record { current = larger (d .current) x; previous = d .previous; cumulative = d .cumulative; reset = d .reset; count = d .count }
+
+abbrev pub demandClosed : Energy → Running → Demand → Demand
+demandClosed e h d = demandRaised (demandSince (h .base) e) d
 
 -- Reset on a day
 abbrev pub demandReset : ℕ → Demand → Demand

@@ -1,15 +1,17 @@
 -- The energy registers (document 01, "Events", Count): pulses are the counter's value less the last one, modulo 2^32; times the weight they are added to the total and to the active rate's register.
 -- Beside that the units of the running half-hour, reckoned without run-round, by which Count is refused.
 use Prim.Native.Nat.{ℕ, _+_, _-_, _*_, _%_, _^_, _<_, _≤_}
-use mathlib.Core.Bool.{Bool, _&&_}
+use mathlib.Core.Bool.{Bool, false, _&&_}
 use mathlib.Core.List.{List, [], _∷_}
 use lib.Dec.{ltb, leb}
-use lib.ListN.{getD, set}
+use lib.ListN.{getD, set, replicate}
 use Rattle.laws.specs.Tests.{allTrue, allBelow}
+use Rattle.quantity.specs.declared.CentiKilowatts.{CentiKilowatts}
 use Rattle.quantity.specs.declared.RegisterUnits.{RegisterUnits}
 use Rattle.quantity.specs.declared.WattHours.{WattHours}
-use Rattle.quantity.specs.Units.{totalRound, wattHours, readingOf, readingGap, energySum}
+use Rattle.quantity.specs.Units.{totalRound, wattHours, readingOf, lastFour, advanceOf, demandOf, readingGap, energySum}
 use Rattle.registers.specs.declared.Energy.{Energy}
+use Rattle.registers.specs.declared.Running.{Running}
 
 -- watt-hours per pulse: 1 to 100
 abbrev pub leastWeight : ℕ
@@ -79,6 +81,17 @@ energyLast c e = record { total = e .total; last = c; rate = e .rate; rates = e 
 
 abbrev pub energyRate : ℕ → Energy → Energy
 energyRate n e = record { total = e .total; last = e .last; rate = n; rates = e .rates }
+
+-- registers that begin at a total, a half-hour that begins at a reading
+abbrev pub energyFrom : WattHours → ℕ → ℕ → Energy
+energyFrom total last rate = record { total = total; last = last; rate = rate; rates = replicate rateCount noEnergy }
+
+abbrev pub runningFrom : RegisterUnits → Running
+runningFrom u = record { base = u; reverse = false; level2 = false }
+
+-- the demand of a half-hour that began at a reading
+abbrev pub demandSince : RegisterUnits → Energy → CentiKilowatts
+demandSince base e = demandOf (advanceOf (lastFour (readingOf (e .total))) (lastFour base))
 
 -- what counting asks, as plain bounds
 pub record Countable (w : WattHours) (e : Energy) : Type 0 where

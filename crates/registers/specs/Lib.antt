@@ -1,3 +1,4 @@
 pub mod Time
+pub mod Present
 pub mod Energy
 pub mod Demand

@@ -8,7 +8,10 @@ halfHour = 1800
 abbrev pub daySeconds : ℕ
 daySeconds = 86400
 
--- the days and the seconds of the century: the first that are past it
+-- the half-hours, days and seconds of the century: the first that are past it
+abbrev pub endHalf : ℕ
+endHalf = 1753200
+
 abbrev pub endDay : ℕ
 endDay = 36525
 

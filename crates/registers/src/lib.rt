@@ -1,12 +1,28 @@
-// The recorder's registers by value: energy, which pulses are added to, and demand, which half-hours raise and a Reset clears.
+// The recorder's fields in their groups, each by value: the present, the running half-hour, energy and demand.
 ghost use mathlib.Core.Path.{_≡_};
-ghost use Prim.Native.Nat.{_<_, _≤_};
-ghost use Rattle.quantity.specs.Units.{totalRound, units, readingOf, lastFour};
-ghost use Rattle.registers.specs.Energy.{Countable, weightOk, rateOk, ratesOk, energyOk, pulsesOf, addedOf, mostAdded, unitsWith, energyCounted};
-ghost use Rattle.registers.specs.Demand.{Resettable, demandOk, larger, demandRaised, demandReset, noDemand};
+ghost use Prim.Native.Nat.{min, _/_, _<_, _≤_};
+ghost use Rattle.quantity.specs.Units.{units, readingOf};
+ghost use Rattle.registers.specs.Energy.{Countable, runningFrom, energyFrom, demandSince, weightOk, rateOk, ratesOk, energyOk, pulsesOf, addedOf, mostAdded, unitsWith, energyCounted};
+ghost use Rattle.registers.specs.Demand.{Resettable, demandOk, larger, demandClosed, demandReset, noDemand};
+ghost use Rattle.registers.specs.Present.{Later, presentOk, presentAt};
+ghost use Rattle.registers.specs.Time.{halfHour, daySeconds, endHalf, endDay, endTime};
 use quantity::CentiKilowatts;
 use quantity::RegisterUnits;
 use quantity::WattHours;
+
+// The present time, whether power is on, and the days stored.
+pub struct Present {
+    pub time: u64,
+    pub on: bool,
+    pub days: u32,
+}
+
+// The running half-hour: the reading at its start, and its two marks.
+pub struct Running {
+    pub base: RegisterUnits,
+    pub reverse: bool,
+    pub level2: bool,
+}
 
 pub struct Energy {
     pub total: WattHours,
@@ -32,6 +48,56 @@ const RATES: u32 = 8;
 const COUNT_ROUND: u32 = 100;
 
 const END_DAY: u32 = 36525;
+
+const HALF_HOUR: u64 = 1800;
+
+const DAY: u64 = 86400;
+
+pub const END_TIME: u64 = 3155760000;
+
+fn smaller(a: u32, b: u32) -> u32
+    ensures { λ r. ⌜ r ≡ min a b ⌝ }
+{
+    if a < b { a } else { b }
+}
+
+impl Present {
+    pub fn in_range(self, cap: u32) -> bool
+        ensures { λ r. ⌜ r ≡ presentOk cap self ⌝ }
+    {
+        (self.time < END_TIME)
+            & (1 <= self.days)
+            & (self.days <= cap)
+            & ((self.days as u64) <= self.time / DAY + 1)
+    }
+
+    // The numbers of today and of the running half-hour.
+    pub fn today(self) -> u32
+        requires { ⌜ self .time < endTime ⌝ }
+        ensures { λ r. ⌜ (r ≡ self .time / daySeconds) × (r < endDay) ⌝ }
+    {
+        (self.time / DAY) as u32
+    }
+
+    pub fn half(self) -> u32
+        requires { ⌜ self .time < endTime ⌝ }
+        ensures { λ r. ⌜ (r ≡ self .time / halfHour) × (r < endHalf) ⌝ }
+    {
+        (self.time / HALF_HOUR) as u32
+    }
+
+    // It is t, with power on.
+    pub fn gone_to(mut self, cap: u32, t: u64) -> Present
+        requires { ⌜ Later cap t self ⌝ }
+        ensures { λ r. ⌜ (r ≡ presentAt cap t self) × (r .time < endTime) ⌝ }
+    {
+        let midnights = (t / DAY - self.time / DAY) as u32;
+        self.days = smaller(cap, self.days + midnights);
+        self.time = t;
+        self.on = true;
+        self
+    }
+}
 
 // Whether so many watt-hours may be a pulse.
 pub fn weight_ok(weight: WattHours) -> bool
@@ -66,29 +132,46 @@ fn rates_ok(rates: [WattHours; 8]) -> bool
     true
 }
 
-// What the store holds of a total: the value of a half-hour that ends at it, and the start of a day that begins at it.
-pub fn value_of(total: WattHours) -> u16
-    ensures { λ r. ⌜ r ≡ lastFour (readingOf total) .0 ⌝ }
-{
-    let reading = total.reading();
-    let value = reading.last_four();
-    value.0 as u16
-}
-
-pub fn start_of(total: WattHours) -> u32
-    requires { ⌜ total .0 < totalRound ⌝ }
-    ensures { λ r. ⌜ r ≡ readingOf total .0 ⌝ }
-{
-    let reading = total.reading();
-    reading.0 as u32
-}
-
 impl Energy {
     pub fn in_range(self) -> bool
         ensures { λ r. ⌜ r ≡ energyOk self ⌝ }
     {
         let rates = self.rates;
         (self.total.0 < quantity::TOTAL_ROUND) & rate_ok(self.rate) & rates_ok(rates)
+    }
+
+    // Registers that begin at a total.
+    pub fn from(total: WattHours, last: u32, rate: u32) -> Energy
+        ensures { λ r. ⌜ r ≡ energyFrom total last rate ⌝ }
+    {
+        Energy {
+            total: total,
+            last: last,
+            rate: rate,
+            rates: [WattHours(0); 8],
+        }
+    }
+
+    // A half-hour that begins now.
+    pub fn begun(self) -> Running
+        ensures { λ r. ⌜ r ≡ runningFrom (readingOf (self .total)) ⌝ }
+    {
+        let base = self.total.reading();
+        Running {
+            base: base,
+            reverse: false,
+            level2: false,
+        }
+    }
+
+    // The demand of one that began at a reading, if it ends now.
+    fn demand_since(self, base: RegisterUnits) -> CentiKilowatts
+        ensures { λ r. ⌜ r ≡ demandSince base self ⌝ }
+    {
+        let reading = self.total.reading();
+        let value = reading.last_four();
+        let before = base.last_four();
+        value.advance_from(before).demand()
     }
 
     // The energy of the pulses since the last count.
@@ -159,11 +242,12 @@ impl Demand {
             & (self.count < COUNT_ROUND)
     }
 
-    // A half-hour closes with a demand.
-    pub fn raised(mut self, demand: CentiKilowatts) -> Demand
-        ensures { λ r. ⌜ r ≡ demandRaised demand self ⌝ }
+    // The running half-hour ends.
+    pub fn closed(mut self, energy: Energy, running: Running) -> Demand
+        ensures { λ r. ⌜ r ≡ demandClosed energy running self ⌝ }
     {
         let current = self.current;
+        let demand = energy.demand_since(running.base);
         self.current = larger(current, demand);
         self
     }

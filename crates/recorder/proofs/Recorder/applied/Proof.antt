@@ -1,5 +1,5 @@
-use Rattle.recorder.specs.Effect.{after}
-use Rattle.recorder.proofs.Answers.{accepted-counts, accepted-good, accepted-clears, accepted-clock, accepted-on}
+use Rattle.recorder.specs.Effect.{flagToday, after}
+use Rattle.recorder.proofs.Answers.{accepted-counts, accepted-resets, accepted-flags, accepted-clock, accepted-on}
 use borrow.Author.Needs.{needs}
 use borrow.Author.Needs.{needs}
 use Rattle.recorder.proofs.Recorder.applied.Statement.{statement}
@@ -38,14 +38,20 @@ accessed-requires c κs = search needs
 enum-known-event-4 : tie.Need-enum-known-event-4
 enum-known-event-4 c = search needs
 
+flag-today-requires : tie.Need-flag-today-requires
+flag-today-requires c κs = accepted-flags _ _ _ _ _ (c .before .before .before .before .before .before .before .pre)
+
 metered-requires : tie.Need-metered-requires
-metered-requires c κs = accepted-good _ _ _ _ _ (c .before .before .before .before .before .before .before .before .before .pre)
+metered-requires c κs = search needs
 
 enum-told-3 : tie.Need-enum-told-3
 enum-told-3 c = search needs
 
-cleared-requires : tie.Need-cleared-requires
-cleared-requires c κs = accepted-clears _ _ _ _ _ (c .before .before .before .before .before .before .before .before .pre)
+flag-today-requires-2 : tie.Need-flag-today-requires-2
+flag-today-requires-2 c κs = accepted-flags _ _ _ _ _ (c .before .before .before .before .before .before .pre)
+
+was-reset-requires : tie.Need-was-reset-requires
+was-reset-requires c κs = accepted-resets _ _ _ _ _ (c .before .before .before .before .before .before .before .before .before .pre)
 
 enum-known-event-5 : tie.Need-enum-known-event-5
 enum-known-event-5 c = search needs
@@ -100,28 +106,16 @@ returns-5 c = rw (c .before .enum-told2 .given .1, c .accessed .ensures)
 same-length-7 : tie.Need-same-length-7
 same-length-7 c = search needs
 
+returns-6 : tie.Need-returns-6
+unfolding after flagToday
+returns-6 c = rw (c .before .before .before .before .before .before .event4 .given .1, c .metered .ensures, c .before .before .before .flag-today .ensures)
+
 same-length-8 : tie.Need-same-length-8
 same-length-8 c = search needs
 
-same-length-9 : tie.Need-same-length-9
-same-length-9 c = search needs
-
-returns-6 : tie.Need-returns-6
-unfolding after
-returns-6 c = rw (c .before .before .before .before .before .before .before .before .before .before .before .event4 .given .1) (c .before .before .before .before .before .before .metered .ensures)
-
-same-length-10 : tie.Need-same-length-10
-same-length-10 c = search needs
-
-same-length-11 : tie.Need-same-length-11
-same-length-11 c = search needs
-
-same-length-12 : tie.Need-same-length-12
-same-length-12 c = search needs
-
 returns-7 : tie.Need-returns-7
-unfolding after
-returns-7 c = rw (c .before .before .before .before .before .before .before .before .before .before .enum-told3 .given .1) (c .before .before .before .before .before .before .cleared .ensures)
+unfolding after flagToday
+returns-7 c = rw (c .before .before .before .before .before .enum-told3 .given .1, c .was-reset .ensures, c .before .before .before .flag-today2 .ensures)
 
 returns-8 : tie.Need-returns-8
 unfolding after
@@ -146,9 +140,11 @@ applied-spec =
     enum-told-2
     accessed-requires
     enum-known-event-4
+    flag-today-requires
     metered-requires
     enum-told-3
-    cleared-requires
+    flag-today-requires-2
+    was-reset-requires
     enum-known-event-5
     rate-is-requires
     enum-told-4
@@ -165,12 +161,8 @@ applied-spec =
     returns-4
     returns-5
     same-length-7
-    same-length-8
-    same-length-9
     returns-6
-    same-length-10
-    same-length-11
-    same-length-12
+    same-length-8
     returns-7
     returns-8
     returns-9)

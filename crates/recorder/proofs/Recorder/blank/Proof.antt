@@ -4,12 +4,15 @@ use borrow.Author.Needs.{needs}
 use Rattle.recorder.proofs.Recorder.blank.Statement.{statement}
 use Rattle.recorder.proofs.Recorder.blank.Tie as tie
 
-none-requires : tie.Need-none-requires
-none-requires c κs = search needs
+from-requires : tie.Need-from-requires
+from-requires c κs = search needs
+
+started-requires : tie.Need-started-requires
+started-requires c κs = search needs
 
 returns : tie.Need-returns
 unfolding blank
-returns c = rw (c .none .ensures)
+returns c = cc
 
 pub blank-spec : {M : Type 1} → statement M
-blank-spec = tie.close (tie.spec none-requires returns)
+blank-spec = tie.close (tie.spec from-requires started-requires returns)

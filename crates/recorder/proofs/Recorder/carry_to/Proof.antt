@@ -1,23 +1,20 @@
-use Rattle.recorder.proofs.Boundaries.{carried-on}
+use Rattle.recorder.proofs.Boundaries.{carry-goes, carried-on}
 use borrow.Author.Needs.{needs}
 use borrow.Author.Needs.{needs}
 use Rattle.recorder.proofs.Recorder.carry_to.Statement.{statement}
 use Rattle.recorder.proofs.Recorder.carry_to.Tie as tie
 
-cast-from : tie.Need-cast-from
-cast-from c = search needs
-
 cap-requires : tie.Need-cap-requires
 cap-requires c κs = search needs
 
-value-of-requires : tie.Need-value-of-requires
-value-of-requires c κs = search needs
+half-requires : tie.Need-half-requires
+half-requires c κs = search needs
 
-start-of-requires : tie.Need-start-of-requires
-start-of-requires c κs = search needs
+reading-requires : tie.Need-reading-requires
+reading-requires c κs = search needs
 
 go-on-requires : tie.Need-go-on-requires
-go-on-requires c κs = search needs
+go-on-requires c κs = search carry-goes
 
 same-length : tie.Need-same-length
 same-length c = search needs
@@ -35,10 +32,9 @@ pub carry-to-spec : {M : Type 1} → statement M
 carry-to-spec =
     tie.close
     (tie.spec
-    cast-from
     cap-requires
-    value-of-requires
-    start-of-requires
+    half-requires
+    reading-requires
     go-on-requires
     same-length
     same-length-2

@@ -1,38 +1,18 @@
-use Rattle.recorder.proofs.Boundaries.{ended-done}
+use Rattle.recorder.specs.Boundary.{ended}
 use borrow.Author.Needs.{needs}
 use borrow.Author.Needs.{needs}
 use Rattle.recorder.proofs.Recorder.ended.Statement.{statement}
 use Rattle.recorder.proofs.Recorder.ended.Tie as tie
 
-reading-requires : tie.Need-reading-requires
-reading-requires c κs = search needs
+closed-requires : tie.Need-closed-requires
+closed-requires c κs = search needs
 
-last-four-requires : tie.Need-last-four-requires
-last-four-requires c κs = search needs
-
-last-four-requires-2 : tie.Need-last-four-requires-2
-last-four-requires-2 c κs = search needs
-
-advance-from-requires : tie.Need-advance-from-requires
-advance-from-requires c κs = search needs
-
-demand-requires : tie.Need-demand-requires
-demand-requires c κs = search needs
-
-raised-requires : tie.Need-raised-requires
-raised-requires c κs = search needs
+begun-requires : tie.Need-begun-requires
+begun-requires c κs = search needs
 
 returns : tie.Need-returns
-returns c = search ended-done
+unfolding ended
+returns c = cc
 
 pub ended-spec : {M : Type 1} → statement M
-ended-spec =
-    tie.close
-    (tie.spec
-    reading-requires
-    last-four-requires
-    last-four-requires-2
-    advance-from-requires
-    demand-requires
-    raised-requires
-    returns)
+ended-spec = tie.close (tie.spec closed-requires begun-requires returns)

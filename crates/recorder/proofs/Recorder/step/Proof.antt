@@ -1,4 +1,4 @@
-use Rattle.recorder.proofs.Effects.{step-refused, step-done}
+use Rattle.recorder.proofs.Effects.{step-refused, step-accepted, step-done}
 use borrow.Author.Needs.{needs}
 use borrow.Author.Needs.{needs}
 use Rattle.recorder.proofs.Recorder.step.Statement.{statement}
@@ -11,7 +11,7 @@ returns : tie.Need-returns
 returns c = search step-refused
 
 applied-requires : tie.Need-applied-requires
-applied-requires c κs = search needs
+applied-requires c κs = search step-accepted
 
 same-length : tie.Need-same-length
 same-length c = search needs

@@ -4,11 +4,11 @@ use borrow.Author.Needs.{needs}
 use Rattle.recorder.proofs.Recorder.turn_on.Statement.{statement}
 use Rattle.recorder.proofs.Recorder.turn_on.Tie as tie
 
-today-requires : tie.Need-today-requires
-today-requires c κs = search needs
-
 advance-to-requires : tie.Need-advance-to-requires
 advance-to-requires c κs = search needs
+
+today-requires : tie.Need-today-requires
+today-requires c κs = search needs
 
 flag-from-requires : tie.Need-flag-from-requires
 flag-from-requires c κs = search on-flags
@@ -29,8 +29,8 @@ pub turn-on-spec : {M : Type 1} → statement M
 turn-on-spec =
     tie.close
     (tie.spec
-    today-requires
     advance-to-requires
+    today-requires
     flag-from-requires
     same-length
     same-length-2

@@ -1,4 +1,4 @@
-use Rattle.recorder.proofs.Setting.{store-begun}
+use Rattle.recorder.proofs.Setting.{store-goes, store-begun}
 use borrow.Author.Needs.{needs}
 use borrow.Author.Needs.{needs}
 use Rattle.recorder.proofs.SetUp.begin.Statement.{statement}
@@ -7,17 +7,14 @@ use Rattle.recorder.proofs.SetUp.begin.Tie as tie
 cast-q : tie.Need-cast-q
 cast-q c = search needs
 
-value-of-requires : tie.Need-value-of-requires
-value-of-requires c κs = search needs
-
-start-of-requires : tie.Need-start-of-requires
-start-of-requires c κs = search needs
-
 days-requires : tie.Need-days-requires
 days-requires c κs = search needs
 
+reading-requires : tie.Need-reading-requires
+reading-requires c κs = search needs
+
 begin-requires : tie.Need-begin-requires
-begin-requires c κs = search needs
+begin-requires c κs = search store-goes
 
 same-length : tie.Need-same-length
 same-length c = search needs
@@ -36,9 +33,8 @@ begin-spec =
     tie.close
     (tie.spec
     cast-q
-    value-of-requires
-    start-of-requires
     days-requires
+    reading-requires
     begin-requires
     same-length
     same-length-2

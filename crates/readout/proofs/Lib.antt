@@ -1,0 +1,2 @@
+-- What a read answers and leaves.
+pub mod Laws

@@ -1,0 +1,2 @@
+-- Reading out.
+pub mod Read
