@@ -105,7 +105,7 @@ module _ (s : SetUp) (z : Given s) (p : Paper) (x : Mem) (k : Kept s p x) where
       (k .at .energy .total) (k .at .running .base) (k .at .energy .up (now p)) (slow-at s p x k))
 
   own-answer : (e : Event) → answerOf x e ≡ eventAnswer (r .clock .on) (r .clock .time) (unitsAfter r) e
-  unfolding answerWith eventAnswer
+  unfolding answerOf answerWith eventAnswer
   own-answer e = rw (some-class, right-lengths, in-range)
 
   -- the answer is the one that is due by the paper

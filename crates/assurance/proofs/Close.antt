@@ -18,10 +18,11 @@ use Rattle.quantity.specs.declared.CentiKilowatts.{CentiKilowatts}
 use Rattle.quantity.specs.Units.{lastFour, advance}
 use Rattle.store.specs.Store.{Store, Fits, closed, opened, turned}
 use Rattle.store.proofs.Laws.{closed-fits, turned-fits}
+use Rattle.registers.specs.Energy.{demandSince}
 use Rattle.recorder.specs.declared.SetUp.{SetUp}
 use Rattle.recorder.specs.declared.Recorder.{Recorder}
 use Rattle.recorder.specs.Recorder.{Mem, readingNow}
-use Rattle.recorder.specs.Boundary.{demandNow, daysAfter, ended, closeOne}
+use Rattle.recorder.specs.Boundary.{daysAfter, ended, closeOne}
 use Rattle.assurance.specs.Paper.{Counts, Tape, totalAt, unitsOf, flagsOf, largest, peakOf}
 use Rattle.assurance.proofs.Kept.{Stored, EnergyKept, DemandKept, RunningKept, ClockKept, ValuesKept, MarksKept, StoreKept, KeptAt, capOf, firstDay, reached, cap-is}
 use Rattle.assurance.proofs.Rooms.{closed-values, closed-marks, closed-flags, opened-values, opened-marks, opened-flags, new-values, new-marks, new-flags}
@@ -124,7 +125,7 @@ module _ (s : SetUp) (p : Tape) (q : ℕ) (x : Mem) (g : KeptAt s p q x) where
   reading-is = omega (arith, g .energy .total)
 
   -- the advance modulo 10,000 is the units of the half-hour
-  demand-is : demandNow r .0 ≡ 2 * unitsOf s (p .counts) q
+  demand-is : demandSince (r .running .base) (r .energy) .0 ≡ 2 * unitsOf s (p .counts) q
   unfolding unitsOf
   demand-is =
       let e = advance-of (lastFour (readingNow r) .0) (r .running .base .0 % 10000) (totalAt s (p .counts) (suc q) / 10) (totalAt s (p .counts) q / 10)

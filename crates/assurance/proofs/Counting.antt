@@ -17,7 +17,6 @@ use Rattle.registers.specs.declared.Energy.{Energy}
 use Rattle.registers.specs.declared.Demand.{Demand}
 use Rattle.registers.specs.Energy.{noEnergy, addedOf, energyCounted}
 use Rattle.recorder.specs.declared.SetUp.{SetUp}
-use Rattle.recorder.specs.declared.Running.{Running}
 use Rattle.recorder.specs.declared.Recorder.{Recorder}
 use Rattle.recorder.specs.Recorder.{Mem, with}
 use Rattle.recorder.specs.Effect as effect

@@ -15,11 +15,11 @@ use Rattle.store.specs.Class.{daysOf}
 use Rattle.store.specs.Store.{Store, Fits}
 use Rattle.registers.specs.declared.Energy.{Energy}
 use Rattle.registers.specs.declared.Demand.{Demand}
+use Rattle.registers.specs.declared.Present.{Present}
+use Rattle.registers.specs.declared.Running.{Running}
 use Rattle.registers.specs.Energy.{noEnergy}
 use Rattle.recorder.specs.declared.SetUp.{SetUp}
 use Rattle.recorder.specs.declared.Identity.{Identity}
-use Rattle.recorder.specs.declared.Present.{Present}
-use Rattle.recorder.specs.declared.Running.{Running}
 use Rattle.recorder.specs.declared.Recorder.{Recorder}
 use Rattle.recorder.specs.Recorder.{Mem}
 use Rattle.assurance.specs.Paper.{Counts, Marks, Demands, Tape, Paper, now, totalAt, unitsOf, peakOf, flagsOf}

@@ -14,3 +14,4 @@ pub mod Energy
 pub mod Happening
 pub mod Sending
 pub mod Sound
+pub mod Life

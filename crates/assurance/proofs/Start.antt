@@ -24,7 +24,7 @@ use Rattle.store.specs.Store.{Store}
 use Rattle.registers.specs.Energy.{noEnergy}
 use Rattle.recorder.specs.declared.SetUp.{SetUp}
 use Rattle.recorder.specs.Recorder.{Mem}
-use Rattle.recorder.specs.SetUp.{setUpTests, setUpAnswer, fresh, made}
+use Rattle.recorder.specs.SetUp.{setUpTests, setUpAnswer, started, fresh, made}
 use Rattle.recorder.proofs.Answers.{days-few}
 use Rattle.recorder.proofs.Setting.{set-up-tests, set-up-begins}
 use Rattle.assurance.specs.Paper.{Tape, totalAt, unitsOf, flagsOf, largest}
@@ -114,7 +114,7 @@ module _ (s : SetUp) (z : Given s) where
   }
 
   pub made-kept : Kept s (blankPaper s) (made s)
-  unfolding made fresh blankTape totalAt unitsOf flagsOf largest
+  unfolding made fresh started blankTape totalAt unitsOf flagsOf largest
   made-kept = record {
     time = refl;
     on = refl;

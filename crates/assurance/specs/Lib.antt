@@ -3,3 +3,4 @@ pub mod Paper
 pub mod Written
 pub mod Meaning
 pub mod Sent
+pub mod Life
