@@ -2,33 +2,32 @@
 -- Assumes nothing.
 use mathlib.Core.Path.{_≡_, refl, sym, ap, _∙_}
 use mathlib.Core.Logic.{_↔_}
-use mathlib.Core.Bool.{Bool, true, false, not, cond, _&&_}
+use mathlib.Core.Bool.{true, false, not, cond}
 use mathlib.Core.List.{List, List·Memᴰ}
 use Prim.Native.Nat.{ℕ, _<_, _+_, _-_}
 use native.Mathlib.Omega.{arith}
 use lib.Dec.{ltb, eqb}
-use lib.ListN.{length, getD}
+use lib.ListN.{getD}
 use borrow.Author.Tests.{ltb-true, eqb-true}
 use Rattle.laws.specs.Tests.{sumBelow}
 use Rattle.laws.proofs.Split.{by-test}
 use Rattle.laws.proofs.Bools.{both}
 use Rattle.laws.proofs.Table.{table-same}
 use Rattle.laws.proofs.Tests.{all-of, all-same, sum-same}
-use Rattle.block.specs.Answers.{answer}
 use Rattle.days.specs.Day.{History, Day, count}
-use Rattle.days.specs.Agree.{sameDay, joinDay}
+use Rattle.days.specs.Agree.{sameDay}
 use Rattle.days.specs.View.{offer}
-use Rattle.days.specs.Desk.{Filed, Fitting, joined, heldIn, Laws, run, fresh}
+use Rattle.days.specs.Desk.{Fitting, joined, heldIn, Laws, run, fresh}
 use Rattle.days.specs.Told.{AllHonest, Kept}
 use Rattle.days.proofs.Held.{kept}
 use Rattle.days.proofs.Order.{same-ledger}
 use Rattle.ledger.specs.Layout.{headSize, lengthOf, firstOf, daysOf}
 use Rattle.ledger.specs.Rooms.{slot, packByte, pack}
-use Rattle.ledger.specs.Judged.{countOk, headOk, judged, fits}
+use Rattle.ledger.specs.Judged.{countOk, headOk, judged}
 use Rattle.ledger.proofs.Packed.{fit-of, slot-packed, pack-same, head-packed, first-packed, days-packed}
 use Rattle.ledger.proofs.Good.{pack-good}
 use Rattle.rooms.specs.View.{viewOf}
-use Rattle.filing.specs.File.{comparedFrom, comparedLength, identAt, sameMeter, agreeAt, agrees, readOf, fileAnswer, refusal, dayAfter, ledgerAfter, heldOf, newlyHeld, filing, fileOf}
+use Rattle.filing.specs.File.{comparedFrom, comparedLength, identAt, sameMeter, agreeAt, agrees, readOf, fileAnswer, refusal, dayAfter, ledgerAfter, heldOf, newlyHeld, fileOf}
 use Rattle.filing.proofs.Filing.{file-answer}
 use Rattle.kept.specs.Desk.{takenBy, filedAs, desk}
 use Rattle.kept.proofs.Taken.{offer-fits}

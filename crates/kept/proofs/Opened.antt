@@ -1,24 +1,21 @@
 -- From opening on: whatever honest blocks are filed in a ledger that `open` opened, it holds exactly what they told.
 -- Assumes nothing.
-use mathlib.Core.Path.{_≡_, refl, sym, ap, _∙_}
+use mathlib.Core.Path.{_≡_, refl, sym, _∙_}
 use mathlib.Core.Logic.{_↔_}
-use mathlib.Core.Bool.{Bool, true, cond}
+use mathlib.Core.Bool.{true}
 use mathlib.Core.List.{List, [], _∷_, List·Memᴰ}
-use Prim.Native.Nat.{ℕ, _<_, _+_}
-use lib.Dec.{eqb}
+use Prim.Native.Nat.{ℕ}
 use lib.ListN.{length}
 use borrow.Author.Tests.{eq-eqb}
-use Rattle.quantity.specs.Units.{unitOf}
 use Rattle.days.specs.Day.{History}
-use Rattle.days.specs.Desk.{Desk, Laws, Filed, run, fresh, dayIn}
+use Rattle.days.specs.Desk.{Desk, Laws, run, fresh, dayIn}
 use Rattle.days.specs.Told.{AllHonest, Kept}
 use Rattle.days.specs.Energy.{Steady, Metered, Unbroken, Close}
 use Rattle.days.proofs.Stretch.{energy-kept}
-use Rattle.ledger.specs.Layout.{lengthOf, daysOf}
-use Rattle.ledger.specs.Rooms.{pack}
-use Rattle.ledger.specs.Open.{headOf, openOk, openChecks, openAnswer, Opening, opening, openOf}
+use Rattle.ledger.specs.Layout.{lengthOf}
+use Rattle.ledger.specs.Open.{headOf, openOk, openChecks, openAnswer, openOf}
 use Rattle.ledger.proofs.Opening.{Opens, opens-of, days-written, first-written, head-good, count-good}
-use Rattle.filing.specs.File.{Filing, fileOf}
+use Rattle.filing.specs.File.{fileOf}
 use Rattle.kept.specs.Desk.{filedAs, desk, fileAll}
 use Rattle.kept.proofs.Laws.{laws, ledger-kept, bytes-same}
 

@@ -1,14 +1,13 @@
 -- Of one filing: a refusal changes nothing; a good ledger stays good; what is newly held is what is held after less what was held before.
 -- Assumes nothing.
 use mathlib.Core.Path.{_≡_, refl, sym, ap, _∙_}
-use mathlib.Core.Bool.{Bool, true, false, not, cond}
-use mathlib.Core.List.{List, [], _∷_}
+use mathlib.Core.Bool.{true}
+use mathlib.Core.List.{List}
 use Prim.Native.Nat.{ℕ, _<_, _+_, _-_}
 use native.Mathlib.Omega.{arith}
 use lib.Dec.{ltb, eqb}
-use lib.ListN.{length, getD}
-use borrow.Author.Tests.{eqb-true, eqb-false, eq-eqb, not-false}
-use Rattle.laws.specs.Tests.{sumBelow}
+use lib.ListN.{getD}
+use borrow.Author.Tests.{eqb-true, eqb-false}
 use Rattle.laws.proofs.Split.{by-test}
 use Rattle.laws.proofs.Tests.{sum-same}
 use Rattle.block.specs.Answers.{answer}
@@ -16,12 +15,12 @@ use Rattle.days.specs.Day.{Day, count, extentOf}
 use Rattle.days.specs.Agree.{joinDay}
 use Rattle.days.specs.View.{offer}
 use Rattle.ledger.specs.Layout.{firstOf, daysOf}
-use Rattle.ledger.specs.Rooms.{slot, pack}
+use Rattle.ledger.specs.Rooms.{slot}
 use Rattle.ledger.specs.Judged.{judged, fits}
 use Rattle.ledger.proofs.Packed.{Fit, fit-of, slot-packed}
 use Rattle.ledger.proofs.Good.{judged-good, slot-fits, pack-good}
 use Rattle.rooms.specs.View.{viewOf}
-use Rattle.filing.specs.File.{sameMeter, agrees, readOf, fileAnswer, refusal, dayAfter, ledgerAfter, heldOf, newlyHeld, Filing, filing, fileOf}
+use Rattle.filing.specs.File.{readOf, fileAnswer, refusal, dayAfter, ledgerAfter, heldOf, newlyHeld, Filing, filing, fileOf}
 use Rattle.filing.proofs.Filing.{file-judged, file-answer}
 use Rattle.kept.proofs.Taken.{offer-fits}
 

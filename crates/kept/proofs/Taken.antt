@@ -1,34 +1,33 @@
 -- A block that is read: what it offers fits a room; and what makes a desk take it.
 -- Assumes nothing.
 use mathlib.Core.Path.{_≡_, refl, sym, ap, _∙_}
-use mathlib.Core.Bool.{Bool, true, false, _&&_, _||_}
+use mathlib.Core.Bool.{true, _||_}
 use mathlib.Core.List.{List, [], _∷_}
-use Prim.Native.Nat.{ℕ, zero, suc, _<_, _≤_, _+_, _-_, _*_, _/_, _%_}
+use Prim.Native.Nat.{ℕ, _<_, _≤_, _+_, _-_, _%_}
 use native.Mathlib.Omega.{arith}
-use native.Mathlib.Decide.{decLt}
 use lib.Dec.{leb, ltb, eqb}
 use lib.ListN.{length, getD}
-use borrow.Author.Tests.{lt-ltb, le-leb, lt-leb, eq-eqb, ltb-true, leb-true}
+use borrow.Author.Tests.{lt-ltb, le-leb, eq-eqb, leb-true}
 use Rattle.laws.specs.Table.{table}
-use Rattle.laws.proofs.Split.{by-test, by-dec}
+use Rattle.laws.proofs.Split.{by-test}
 use Rattle.laws.proofs.Bools.{both, or-split}
 use Rattle.laws.proofs.Table.{length-table, table-at}
 use Rattle.laws.proofs.Tests.{allTrue-of, all-at, all-of}
-use Rattle.quantity.specs.Units.{readingRound, valueRound}
-use Rattle.calendar.specs.Clock.{secondsOfDay, endedOn}
+use Rattle.quantity.specs.Units.{readingRound}
+use Rattle.calendar.specs.Clock.{endedOn}
 use Rattle.calendar.proofs.Times.{ended-le}
 use Rattle.format.specs.Numbers.{binary, isDigit, numAt, digitAt}
 use Rattle.format.specs.Identifier.{capital, figure, identByte, identTest, identOk}
 use Rattle.format.proofs.Numbers.{byte-num, good-at, bytes-good}
-use Rattle.block.specs.Fields.{daysIn, fieldsIn, secondsIn, identIn, startIn, flagsIn, halfIn}
+use Rattle.block.specs.Fields.{fieldsIn, secondsIn, identIn, startIn, flagsIn}
 use Rattle.block.specs.Parse.{fields, parse}
 use Rattle.block.specs.Answers.{answerOf}
 use Rattle.block.proofs.Positions.{ident-at}
 use Rattle.block.proofs.Trip.{days-of}
 use Rattle.block.proofs.Ranges.{start-low, flags-low, flags-clear, half-low, parsed-byte}
 use Rattle.reader.proofs.Answers.{IsRead, read-is, parsed-is}
-use Rattle.days.specs.Day.{Half, held, noHalf, flagsHeld, whole}
-use Rattle.days.specs.View.{View, dayOf, carries, offered, offer}
+use Rattle.days.specs.Day.{noHalf, flagsHeld, whole}
+use Rattle.days.specs.View.{dayOf, carries, offered, offer}
 use Rattle.days.proofs.Offer.{carries-of}
 use Rattle.ledger.specs.Layout.{headSize}
 use Rattle.ledger.specs.Judged.{flagsOk, lowAll, fits}
