@@ -10,7 +10,6 @@ use borrow.Author.Tests.{eq-eqb, ne-eqb}
 use Rattle.quantity.specs.declared.RegisterUnits.{RegisterUnits}
 use Rattle.quantity.specs.declared.WattHours.{WattHours}
 use Rattle.quantity.specs.declared.CentiKilowatts.{CentiKilowatts}
-use Rattle.identifier.specs.Identifier.{idOk}
 use Rattle.store.specs.Class.{rightLengths}
 use Rattle.store.specs.Store.{Store, Fits}
 use Rattle.registers.specs.Energy.{noEnergy, addedOf, unitsWith}

@@ -10,7 +10,7 @@ use Rattle.laws.specs.Bits.{packBits}
 use Rattle.quantity.specs.declared.RegisterUnits.{RegisterUnits}
 use Rattle.quantity.specs.declared.WattHours.{WattHours}
 use Rattle.quantity.specs.declared.CentiKilowatts.{CentiKilowatts}
-use Rattle.identifier.specs.Identifier.{idOk}
+use Rattle.format.specs.Identifier.{identOk}
 use Rattle.store.specs.Class.{daysOf}
 use Rattle.store.specs.Store.{Store, Fits}
 use Rattle.registers.specs.declared.Energy.{Energy}
@@ -35,7 +35,7 @@ identityOf s = record { identifier = s .identifier; class = s .class; weight = s
 
 -- set-up was accepted
 pub record Given (s : SetUp) : Type 0 where
-  pub identifier : idOk (s .identifier) ≡ true
+  pub identifier : identOk (s .identifier) 0 ≡ true
   pub some : 0 < capOf s
   pub weight-low : 1 ≤ s .weight .0
   pub weight-high : s .weight .0 ≤ 100

@@ -15,3 +15,4 @@ pub mod Happening
 pub mod Sending
 pub mod Sound
 pub mod Life
+pub mod Reading

@@ -10,10 +10,12 @@ use native.Mathlib.Omega.{arith}
 use lib.Bits.{bitOr}
 use lib.ListN.{length, getD, set, length-set}
 use lib.Seq.{getD-set-other, getD-set-same}
-use Rattle.laws.specs.Bits.{bit, packBits}
-use Rattle.laws.proofs.Bits.{push-packed, packed-same}
+use Rattle.laws.specs.Bits.{packBits}
+use Rattle.laws.proofs.Bits.{packed-same}
 use Rattle.laws.proofs.Ring.{ring-apart, other-room, other-place, this-place}
 use Rattle.laws.proofs.Split.{by-dec}
+use Rattle.marks.specs.Marks.{taken}
+use Rattle.marks.proofs.Laws.{taken-packed}
 use Rattle.store.specs.Store.{Store, Fits, pushAt, closed, opened, flagAt}
 use Rattle.recorder.specs.declared.SetUp.{SetUp}
 use Rattle.assurance.specs.Paper.{Counts, Marks, Flags, totalAt, flagsOf}
@@ -77,12 +79,12 @@ module _ (s : SetUp) (q : ℕ) (x : Store) (f : Fits (capOf s) x) (a : ℕ) (b c
         reverse =
             word-set (pushAt (x .marks) (r * 3) b) (r * 3) (r * 3 + 1) _ (omega arith)
             ∙ this-word (x .marks) (capOf s) r (r * 3) _ (f .marks) (mod-lt d (f .some)) (omega arith)
-            ∙ ap (λ (w : ℕ). w % 140737488355328 * 2 + bit b) (g′ .reverse)
-            ∙ push-packed (q % 48) (ofDay (p .reverse) d) b (omega arith) (rw at eb);
+            ∙ ap (λ (w : ℕ). taken w b) (g′ .reverse)
+            ∙ taken-packed (q % 48) (ofDay (p .reverse) d) b (omega arith) (rw at eb);
         level2 =
             this-word (pushAt (x .marks) (r * 3) b) (capOf s) r (r * 3 + 1) _ (length-set (x .marks) (r * 3) _ ∙ f .marks) (mod-lt d (f .some)) (omega arith)
-            ∙ ap (λ (w : ℕ). w % 140737488355328 * 2 + bit c) (word-set (x .marks) (r * 3 + 1) (r * 3) _ (omega arith) ∙ g′ .level2)
-            ∙ push-packed (q % 48) (ofDay (p .level2) d) c (omega arith) (rw at ec);
+            ∙ ap (λ (w : ℕ). taken w c) (word-set (x .marks) (r * 3 + 1) (r * 3) _ (omega arith) ∙ g′ .level2)
+            ∙ taken-packed (q % 48) (ofDay (p .level2) d) c (omega arith) (rw at ec);
       })
     where
       other : d < q / 48 → (w : ℕ) → r * 3 ≤ w → w < r * 3 + 3 → getD (pushAt (pushAt (x .marks) (e * 3) b) (e * 3 + 1) c) w 0 ≡ getD (x .marks) w 0

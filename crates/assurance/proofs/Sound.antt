@@ -141,10 +141,10 @@ module _ (s : SetUp) (z : Given s) (p : Paper) (x : Mem) (k : Kept s p x) where
       (sym (small (c .rate i % 1000000000 / 1000) (kwh-few (c .rate i)))))))
       (omega arith) (omega arith))
 
-  pub head-fits : identOk (s .identifier) 0 ≡ true → (n : ℕ) → n ≤ 450 → headFits h n ≡ true
+  pub head-fits : (n : ℕ) → n ≤ 450 → headFits h n ≡ true
   unfolding headerDue
-  head-fits id n few =
-      sym (head-is h n true true true few (k .at .demand .date) eight (sym (ident-fits (s .identifier) id)) (sym totals-fit) (sym rates-fit))
+  head-fits n few =
+      sym (head-is h n true true true few (k .at .demand .date) eight (sym (ident-fits (s .identifier) (z .identifier))) (sym totals-fit) (sym rates-fit))
       ∙ rw (lt-ltb (p .time) 3155760000 (k .century)) (never-counted (p .tape .demands .date) (p .tape .demands .resets) (k .at .demand .never))
 
 -- ---- the days
@@ -247,11 +247,11 @@ module _ (s : SetUp) (z : Given s) (p : Paper) (x : Mem) (k : Kept s p x) (n : �
       )
 
   -- so the writer takes it
-  pub can-write : identOk (s .identifier) 0 ≡ true → writable (headerDue s p) n src (x .store .values) (x .store .starts) (x .store .marks) ≡ true
+  pub can-write : writable (headerDue s p) n src (x .store .values) (x .store .starts) (x .store .marks) ≡ true
   unfolding headerDue
-  can-write id =
+  can-write =
       sym (writable-is (headerDue s p) n src (x .store .values) (x .store .starts) (x .store .marks) true true
-      (sym (head-fits s z p x k id n (omega (arith, days-few (s .class))))) (sym days-fit))
+      (sym (head-fits s z p x k n (omega (arith, days-few (s .class))))) (sym days-fit))
 
   pub is-shaped : shaped src n (length (x .store .values)) (length (x .store .starts)) (length (x .store .marks)) ≡ true
   unfolding shaped

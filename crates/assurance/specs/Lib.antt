@@ -4,3 +4,4 @@ pub mod Written
 pub mod Meaning
 pub mod Sent
 pub mod Life
+pub mod Run
