@@ -21,6 +21,7 @@ use Rattle.recorder.specs.Recorder.{Mem}
 use Rattle.recorder.specs.Recorder as recorder
 use Rattle.recorder.specs.Range.{inRange}
 use Rattle.recorder.specs.Answer.{noClass, unitsAfter, eventAnswer, answerWith, answerOf}
+use Rattle.recorder.proofs.Ranges.{IdentityRanges, PresentRanges, EnergyRanges, DemandRanges}
 use Rattle.recorder.proofs.Ranges as ranges
 use Rattle.assurance.specs.Paper.{Paper, now, totalAt, unitsOf}
 use Rattle.assurance.specs.Written.{energyOf, due}
@@ -62,23 +63,27 @@ module _ (s : SetUp) (z : Given s) (p : Paper) (x : Mem) (k : Kept s p x) where
       let g = k .at in
       let d = g .demand in
       record {
-        identifier = rw (g .identity) (z .identifier);
-        weight-low = rw (g .identity) (z .weight-low);
-        weight-high = rw (g .identity) (z .weight-high);
-        time = omega (arith, k .time, k .century);
-        days-low = omega (arith, g .clock .days, g .clock .begun, z .some);
-        days-high = omega (arith, g .clock .days, has-cap);
-        days-past = omega (arith, g .clock .days, k .time);
-        total = omega (arith, g .energy .total);
-        rate-low = g .energy .rate-low;
-        rate-high = g .energy .rate-high;
-        rates = λ i l. rw (g .energy .rates i l) (mod-lt (p .tape .counts .rate i) {m = 1000000000} (omega arith));
-        current =
-            omega (arith, d .current, largest-le (unitsOf s (p .tape .counts)) (p .tape .demands .since) (now p - p .tape .demands .since) (g .energy .slow));
-        previous = omega (arith, d .previous, d .previous-few);
-        cumulative = omega (arith, d .cumulative);
-        reset = omega (arith, d .reset, d .date);
-        count = omega (arith, d .count);
+        identity = rw (g .identity) (record { identifier = z .identifier; low = z .weight-low; high = z .weight-high });
+        clock = record {
+          time = omega (arith, k .time, k .century);
+          low = omega (arith, g .clock .days, g .clock .begun, z .some);
+          high = omega (arith, g .clock .days, has-cap);
+          past = omega (arith, g .clock .days, k .time);
+        };
+        energy = record {
+          total = omega (arith, g .energy .total);
+          low = g .energy .rate-low;
+          high = g .energy .rate-high;
+          rates = λ i l. rw (g .energy .rates i l) (mod-lt (p .tape .counts .rate i) {m = 1000000000} (omega arith));
+        };
+        demand = record {
+          current =
+              omega (arith, d .current, largest-le (unitsOf s (p .tape .counts)) (p .tape .demands .since) (now p - p .tape .demands .since) (g .energy .slow));
+          previous = omega (arith, d .previous, d .previous-few);
+          cumulative = omega (arith, d .cumulative);
+          reset = omega (arith, d .reset, d .date);
+          count = omega (arith, d .count);
+        };
         base = omega (arith, g .running .base);
       }
 

@@ -16,3 +16,5 @@ pub mod Sending
 pub mod Sound
 pub mod Life
 pub mod Reading
+pub mod Honest
+pub mod Blocks
