@@ -18,3 +18,5 @@ pub mod Life
 pub mod Reading
 pub mod Honest
 pub mod Blocks
+pub mod Delivered
+pub mod Demands

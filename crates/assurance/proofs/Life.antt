@@ -46,7 +46,7 @@ use Rattle.assurance.proofs.Energy.{sum-round, before-is, rates-are, al
 use Rattle.assurance.proofs.Happening.{outage-exactly, meter-exactly, reset-exactly, reverse-exactly, level2-exactly, since-is}
 use Rattle.assurance.proofs.Sending.{ended-reached, days-are, stored}
 
-iff-trans : {A B C : Type 0} → A ↔ B → B ↔ C → A ↔ C
+pub iff-trans : {A B C : Type 0} → A ↔ B → B ↔ C → A ↔ C
 iff-trans f g = (λ a. g .0 (f .0 a), λ c. f .1 (g .1 c))
 
 -- a refused event counts nothing

@@ -27,6 +27,7 @@ use Rattle.judgement.specs.Days.{DayRecord, daysFrom}
 use Rattle.judgement.specs.Given.{given, writable}
 use Rattle.judgement.proofs.Writable.{written-reads}
 use Rattle.writer.specs.Send.{Sent, sent, sendOf}
+use Rattle.writer.proofs.Sent.{send-shaped}
 use Rattle.store.specs.Store.{Store}
 use Rattle.registers.specs.Energy.{noEnergy}
 use Rattle.recorder.specs.declared.SetUp.{SetUp}
@@ -98,10 +99,9 @@ module _ (s : SetUp) (z : Given s) (p : Paper) (x : Mem) (k : Kept s p x) where
 
     send-is : (out : List ℕ) → sendOf (headerDue s p) n (ringOf s p) (x .store .values) (x .store .starts) (x .store .marks) out
         ≡ cond (ltb (length out) size) (sent out (answer 7 size)) (sent (sets out 0 (blockDue s p asked)) (answer 0 size))
-    unfolding sendOf
     send-is out =
-        rw (is-shaped s z p x k n (omega arith), can-write s z p x k n (omega arith), fields-due)
-        (by-test (ltb (length out) size) (λ t. rw t) (λ t. rw t))
+        send-shaped (headerDue s p) n (ringOf s p) (x .store .values) (x .store .starts) (x .store .marks) out (is-shaped s z p x k n (omega arith))
+        ∙ rw (can-write s z p x k n (omega arith), fields-due)
 
     pub read-is : (out : List ℕ) → readOf asked x out ≡ sentDue s p asked out
     unfolding readOf sentDue readDue

@@ -151,7 +151,7 @@ module _ (s : SetUp) (z : Given s) (p : Paper) (x : Mem) (k : Kept s p x) where
 
 -- ---- the run, from set-up on: whatever store was lent, whatever the events
 
-run-kept : (s : SetUp) → Given s → (es : List Event) (p : Paper) (x : Mem) → Kept s p x → Kept s (writtenAll s p es) (run x es)
+pub run-kept : (s : SetUp) → Given s → (es : List Event) (p : Paper) (x : Mem) → Kept s p x → Kept s (writtenAll s p es) (run x es)
 unfolding writtenAll run
 run-kept s z [] p x k = k
 run-kept s z (e ∷ es) p x k = run-kept s z es (written s p e) (step x e .after) (step-kept s z p x k e)

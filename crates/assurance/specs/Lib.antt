@@ -5,3 +5,5 @@ pub mod Meaning
 pub mod Sent
 pub mod Life
 pub mod Run
+pub mod Delivered
+pub mod Demands
