@@ -1,0 +1,5 @@
+-- Taken: blocks that a desk takes. Laws: the ledger is a desk. Opened: demand 3 from opening on. Stays: one filing.
+pub mod Taken
+pub mod Laws
+pub mod Opened
+pub mod Stays
