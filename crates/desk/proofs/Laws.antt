@@ -27,6 +27,7 @@ use Rattle.ledger.specs.Rooms.{halfIn, dayWith, dayAt, slot}
 use Rattle.ledger.specs.Judged.{judged}
 use Rattle.ledger.specs.Open.{Opening, opening}
 use Rattle.ledger.specs.Asked.{asked, Asked, summaryOf, dayMissing, missingOf}
+use Rattle.filing.specs.File.{Filing, filing}
 use Rattle.ledger.specs.declared.SummaryAnswer.{SummaryAnswer}
 use Rattle.ledger.specs.declared.MissingAnswer.{MissingAnswer}
 use Rattle.ledger.proofs.Good.{judged-good}
@@ -48,6 +49,13 @@ module _ (l : List ℕ) (a : ℕ) (x : Opening) (e : opening l a ≡ x) where
 
   pub opened-number : (r : ℕ) → r ≡ oneNumber a 0 → r ≡ oneNumber (x .answer) 0
   opened-number r f = f ∙ ap (λ (y : Opening). oneNumber (y .answer) 0) e
+
+module _ (l : List ℕ) (a : Answer) (x : Filing) (e : filing l a ≡ x) where
+  pub filed-ledger : l ≡ x .ledger
+  filed-ledger = ap (λ (y : Filing). y .ledger) e
+
+  pub filed-number : (r : ℕ) → r ≡ oneNumber (a .number) (a .carried) → r ≡ numberOf (x .answer)
+  filed-number r f = f ∙ ap (λ (y : Filing). numberOf (y .answer)) e
 
 -- ---- the window
 
