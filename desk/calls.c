@@ -55,7 +55,7 @@ int main(void) {
     IS(cop6_read(block, n), ANSWER(COP6_FIELD, 127));
     block[130] = '1';
     IS(cop6_read(block, n), ANSWER(COP6_DONE, 1));
-    block[135] = '1';
+    block[135] = '9';
     IS(cop6_read(block, n), ANSWER(COP6_INCONSISTENT, 0));
     n = one_day(block, "240229011000");
 

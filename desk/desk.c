@@ -49,7 +49,7 @@ static const char *meaning(uint32_t answer) {
     switch (answer) {
     case COP6_LENGTH: return "not a ledger's length";
     case COP6_DAMAGED: return "the ledger is damaged";
-    case COP6_RANGE: return "an opening value, or the day asked, is out of range";
+    case COP6_RANGE: return "a day outside the ledger's window";
     case COP6_SHORT: return "the output is too short";
     case COP6_NO_BLOCK: return "not a block: its length or version is wrong";
     case COP6_FIELD: return "a field is wrong";
@@ -60,14 +60,15 @@ static const char *meaning(uint32_t answer) {
     }
 }
 
-static int refused(const char *what, uint64_t r) {
-    uint32_t answer = COP6_ANSWER(r);
-    fprintf(stderr, "desk: %s: refused with %" PRIu32 ": %s", what, answer, meaning(answer));
-    if (answer == COP6_FIELD)
+static int refused_for(const char *what, uint64_t r, const char *why) {
+    fprintf(stderr, "desk: %s: refused with %" PRIu32 ": %s", what, COP6_ANSWER(r), why);
+    if (COP6_ANSWER(r) == COP6_FIELD)
         fprintf(stderr, ", the one at byte %" PRIu32, COP6_CARRIED(r));
     fputc('\n', stderr);
     return REFUSED;
 }
+
+static int refused(const char *what, uint64_t r) { return refused_for(what, r, meaning(COP6_ANSWER(r))); }
 
 static int worse(int a, int b) { return a < b ? b : a; }
 
@@ -217,7 +218,7 @@ static int open_ledger(char **args) {
     }
     uint64_t r = cop6_open(ledger.at, ledger.length, (const uint8_t *)args[1], strlen(args[1]), first, days);
     if (COP6_ANSWER(r) != COP6_DONE) {
-        status = refused(args[0], r);
+        status = refused_for(args[0], r, "identifier, first day or number of days out of range");
     } else {
         mode_t mask = umask(0);
         umask(mask);
@@ -249,12 +250,12 @@ static int lock(const char *path, struct stat *locked) {
 }
 
 /* Files the blocks in memory, saves the ledger once, and only then says what they brought. */
-static int file_in(const char *path, struct bytes *ledger, mode_t mode, char **blocks, int count) {
+static int file_in(const char *name, const char *path, struct bytes *ledger, mode_t mode, char **blocks, int count) {
     uint64_t *answers = calloc((size_t)count, sizeof *answers);
     uint8_t *before = malloc(ledger->length + 1);
     int status = DONE;
     if (answers == NULL || before == NULL) {
-        status = trouble_with(path);
+        status = trouble_with(name);
     } else {
         memcpy(before, ledger->at, ledger->length);
         for (int i = 0; i < count; i++) {
@@ -266,7 +267,7 @@ static int file_in(const char *path, struct bytes *ledger, mode_t mode, char **b
                 continue;
             answers[i] = cop6_file(ledger->at, ledger->length, block.at, block.length);
             if (COP6_ANSWER(answers[i]) != COP6_DONE)
-                status = worse(status, refused(COP6_ANSWER(answers[i]) <= COP6_DAMAGED ? path : blocks[i], answers[i]));
+                status = worse(status, refused(COP6_ANSWER(answers[i]) <= COP6_DAMAGED ? name : blocks[i], answers[i]));
             free(block.at);
         }
         int saved = memcmp(before, ledger->at, ledger->length) == 0 ? DONE : save(path, ledger, mode, 0);
@@ -292,7 +293,7 @@ static int file_blocks(char **args, int count) {
     } else {
         status = read_all(fd, args[0], most_ledger(), &ledger);
         if (status == DONE) {
-            status = file_in(path, &ledger, locked.st_mode & 07777, args + 1, count - 1);
+            status = file_in(args[0], path, &ledger, locked.st_mode & 07777, args + 1, count - 1);
             free(ledger.at);
         }
         close(fd);
@@ -395,7 +396,7 @@ static char mark(uint64_t half) {
 
 static int show(const struct span *s) {
     uint64_t half[COP6_HALVES];
-    uint32_t largest = 1;
+    uint32_t largest = 0;
     for (uint32_t day = s->first; day <= s->last; day++) {
         uint64_t r = cop6_halves(s->ledger.at, s->ledger.length, day, half, COP6_HALVES);
         if (COP6_ANSWER(r) != COP6_DONE)
@@ -422,7 +423,9 @@ static int show(const struct span *s) {
             puts("");
         }
     }
-    printf("█ %" PRIu32 " units of 10 Wh, _ none, ░ missing; R reverse, 2 Level 2, B both\n", largest);
+    if (largest > 0)
+        printf("█ %" PRIu32 " units of 10 Wh, ", largest);
+    puts("_ none, ░ missing; R reverse, 2 Level 2, B both");
     return DONE;
 }
 
@@ -468,8 +471,7 @@ static int run(int count, char **args) {
         fputs(usage, stdout);
         return DONE;
     }
-    fputs(usage, stderr);
-    return TROUBLE;
+    return trouble("wrong usage: desk --help says what is right");
 }
 
 int main(int count, char **args) {
