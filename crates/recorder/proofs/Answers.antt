@@ -13,10 +13,10 @@ use Rattle.laws.proofs.Checks.{NoneFails, none-fails}
 use Rattle.quantity.specs.declared.RegisterUnits.{RegisterUnits}
 use Rattle.quantity.specs.Units.{units}
 use Rattle.registers.specs.Energy.{Countable}
-use Rattle.registers.specs.Time.{endTime}
+use Rattle.calendar.specs.Clock.{halvesOfDay, timesInAll}
 use Rattle.store.specs.declared.Class.{Class}
 use Rattle.store.specs.declared.Class.the-variants.{A, B, C, D, Blank}
-use Rattle.store.specs.Class.{daysOf, mostDays, dayValues, dayWords, rightLengths}
+use Rattle.store.specs.Class.{daysOf, mostDays, dayWords, rightLengths}
 use Rattle.store.specs.Store.{Fits, store}
 use Rattle.recorder.specs.Recorder.{Recorder, Event, Clock, On, mem, capOf}
 use Rattle.recorder.specs.Range.{inRange}
@@ -55,10 +55,10 @@ pub count-judged : (r : Recorder) (c : ℕ) (u : RegisterUnits) (a b : ℕ) → 
 count-judged r c u a b p q t = rw (t, q, p)
 
 -- the lengths that passed
-pub right-lengths : (cap v s m : ℕ) → rightLengths cap v s m ≡ true → (v ≡ cap * dayValues) × (s ≡ cap) × (m ≡ cap * dayWords)
+pub right-lengths : (cap v s m : ℕ) → rightLengths cap v s m ≡ true → (v ≡ cap * halvesOfDay) × (s ≡ cap) × (m ≡ cap * dayWords)
 right-lengths cap v s m e =
-    let a = both (eqb v (cap * dayValues) && eqb s cap) (eqb m (cap * dayWords)) e in
-    let b = both (eqb v (cap * dayValues)) (eqb s cap) (a .0) in
+    let a = both (eqb v (cap * halvesOfDay) && eqb s cap) (eqb m (cap * dayWords)) e in
+    let b = both (eqb v (cap * halvesOfDay)) (eqb s cap) (a .0) in
     (eqb-true _ _ (b .0), eqb-true _ _ (b .1), eqb-true _ _ (a .1))
 
 -- an answer of 0: no check fails
@@ -101,7 +101,7 @@ module _ (r : Recorder) (e : Event) (v s m : List ℕ) (a : answerOf (mem r v s 
 
   goes : (t : ℕ) → not (inTime (r .clock .time) t) ≡ false → Goes t (mem r v s m)
   goes t f =
-      let b = both (leb (r .clock .time) t) (ltb t endTime) (not-false (inTime (r .clock .time) t) f) in
+      let b = both (leb (r .clock .time) t) (ltb t timesInAll) (not-false (inTime (r .clock .time) t) f) in
       record { good = accepted-good; from = leb-true _ _ (b .0); to = ltb-true _ _ (b .1) }
 
   pub accepted-clock : (t : ℕ) → e ≡ Clock t → Goes t (mem r v s m)

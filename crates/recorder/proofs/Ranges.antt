@@ -6,22 +6,23 @@ use mathlib.Core.Path.{_≡_, refl}
 use borrow.Author.Tests.{ltb-true, leb-true, lt-ltb, le-leb}
 use lib.Dec.{ltb, leb}
 use lib.ListN.{getD}
-use Rattle.identifier.specs.Identifier.{idOk}
+use Rattle.format.specs.Identifier.{identOk}
 use Rattle.laws.proofs.Bools.{both}
 use Rattle.laws.proofs.Tests.{allTrue-each, allTrue-of, all-at, all-of}
 use Rattle.quantity.specs.Units.{totalRound, readingRound, demandRound}
 use Rattle.registers.specs.Demand.{demandTests, countRound}
 use Rattle.registers.specs.Energy.{leastWeight, mostWeight, weightOk, rateCount, rateOk, rateTest, ratesOk, noEnergy, energyTests, Countable}
 use Rattle.registers.specs.Present.{presentTests}
-use Rattle.registers.specs.Time.{endDay, endTime}
+use Rattle.calendar.specs.Calendar.{daysInAll}
+use Rattle.calendar.specs.Clock.{timesInAll}
 use Rattle.recorder.specs.Recorder.{Recorder, capOf, todayOf}
 use Rattle.recorder.specs.Range.{identityTests, groups, inRange}
 
 pub record Ranges (r : Recorder) : Type 0 where
-  pub identifier : idOk (r .identity .identifier) ≡ true
+  pub identifier : identOk (r .identity .identifier) 0 ≡ true
   pub weight-low : leastWeight ≤ r .identity .weight .0
   pub weight-high : r .identity .weight .0 ≤ mostWeight
-  pub time : r .clock .time < endTime
+  pub time : r .clock .time < timesInAll
   pub days-low : 1 ≤ r .clock .days
   pub days-high : r .clock .days ≤ capOf r
   pub days-past : r .clock .days ≤ todayOf r + 1
@@ -32,7 +33,7 @@ pub record Ranges (r : Recorder) : Type 0 where
   pub current : r .demand .current .0 < demandRound
   pub previous : r .demand .previous .0 < demandRound
   pub cumulative : r .demand .cumulative .0 < demandRound
-  pub reset : r .demand .reset ≤ endDay
+  pub reset : r .demand .reset ≤ daysInAll
   pub count : r .demand .count < countRound
   pub base : r .running .base .0 < readingRound
 
