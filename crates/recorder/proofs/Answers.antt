@@ -18,7 +18,7 @@ use Rattle.store.specs.declared.Class.{Class}
 use Rattle.store.specs.declared.Class.the-variants.{A, B, C, D, Blank}
 use Rattle.store.specs.Class.{daysOf, mostDays, dayWords, rightLengths}
 use Rattle.store.specs.Store.{Fits, store}
-use Rattle.recorder.specs.Recorder.{Recorder, Event, Clock, On, mem, capOf}
+use Rattle.recorder.specs.Recorder.{Recorder, Event, Clock, On, Mem, mem, capOf}
 use Rattle.recorder.specs.Range.{inRange}
 use Rattle.recorder.specs.Answer.{mostUnits, unitsAfter, eventAnswer, inTime, checks, answerWith, answerOf}
 use Rattle.recorder.specs.Needs.{Good, Goes, Resets, Flaggable}
@@ -66,6 +66,10 @@ pub answered : (r : Recorder) (e : Event) (v s m : ℕ) → answerWith r e v s m
 unfolding answerWith
 answered r e v s m a = none-fails (checks r e v s m) refl a
 
+pub given-answer : (x : Mem) (e : Event) → answerOf x e ≡ 0 → answerWith (x .recorder) e (length (x .store .values)) (length (x .store .starts)) (length (x .store .marks)) ≡ 0
+unfolding answerOf
+given-answer x e a = a
+
 pub days-few : (k : Class) → daysOf k ≤ mostDays
 days-few A = omega arith
 days-few B = omega arith
@@ -75,8 +79,7 @@ days-few Blank = omega arith
 
 module _ (r : Recorder) (e : Event) (v s m : List ℕ) (a : answerOf (mem r v s m) e ≡ 0) where
   none : NoneFails (checks r e (length v) (length s) (length m))
-  unfolding answerOf
-  none = answered r e (length v) (length s) (length m) a
+  none = answered r e (length v) (length s) (length m) (given-answer (mem r v s m) e a)
 
   pub accepted-ranges : Ranges r
   accepted-ranges = ranges r (not-false (inRange r) (none .1 .1 .0))
@@ -90,14 +93,14 @@ module _ (r : Recorder) (e : Event) (v s m : List ℕ) (a : answerOf (mem r v s 
   accepted-counts = countable r accepted-ranges
 
   pub accepted-good : Good (mem r v s m)
-  accepted-good = let g = accepted-ranges in record { time = g .time; days = g .days-high; total = g .total; fits = accepted-fits }
+  accepted-good = let g = accepted-ranges in record { time = g .clock .time; days = g .clock .high; total = g .energy .total; fits = accepted-fits }
 
   pub accepted-flags : Flaggable r m
   accepted-flags =
-      record { time = accepted-ranges .time; words = record { some = accepted-fits .some; most = accepted-fits .most; marks = accepted-fits .marks } }
+      record { time = accepted-ranges .clock .time; words = record { some = accepted-fits .some; most = accepted-fits .most; marks = accepted-fits .marks } }
 
   pub accepted-resets : Resets r
-  accepted-resets = record { time = accepted-ranges .time; count = accepted-ranges .count }
+  accepted-resets = record { time = accepted-ranges .clock .time; count = accepted-ranges .demand .count }
 
   goes : (t : ℕ) → not (inTime (r .clock .time) t) ≡ false → Goes t (mem r v s m)
   goes t f =
