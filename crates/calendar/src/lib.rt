@@ -39,15 +39,15 @@ pub struct Spot {
     pub rest: u32,
 }
 
-const DAYS_IN_ALL: u32 = 36525;
+pub const DAYS_IN_ALL: u32 = 36525;
 
-const SECONDS_OF_DAY: u64 = 86400;
+pub const SECONDS_OF_DAY: u64 = 86400;
 
-const SECONDS_OF_HALF: u64 = 1800;
+pub const SECONDS_OF_HALF: u64 = 1800;
 
-const TIMES_IN_ALL: u64 = 3155760000;
+pub const TIMES_IN_ALL: u64 = 3155760000;
 
-const HALVES: u32 = 48;
+pub const HALVES: u32 = 48;
 
 const LENGTHS: [u32; 12] = [31, 28, 31, 30, 31, 30, 31, 31, 30, 31, 30, 31];
 

@@ -13,12 +13,12 @@ use Rattle.laws.proofs.Checks.{NoneFails, none-fails}
 use Rattle.quantity.specs.declared.RegisterUnits.{RegisterUnits}
 use Rattle.quantity.specs.Units.{units}
 use Rattle.registers.specs.Energy.{Countable}
-use Rattle.registers.specs.Time.{endTime}
+use Rattle.calendar.specs.Clock.{halvesOfDay, timesInAll}
 use Rattle.store.specs.declared.Class.{Class}
 use Rattle.store.specs.declared.Class.the-variants.{A, B, C, D, Blank}
-use Rattle.store.specs.Class.{daysOf, mostDays, dayValues, dayWords, rightLengths}
+use Rattle.store.specs.Class.{daysOf, mostDays, dayWords, rightLengths}
 use Rattle.store.specs.Store.{Fits, store}
-use Rattle.recorder.specs.Recorder.{Recorder, Event, Clock, On, mem, capOf}
+use Rattle.recorder.specs.Recorder.{Recorder, Event, Clock, On, Mem, mem, capOf}
 use Rattle.recorder.specs.Range.{inRange}
 use Rattle.recorder.specs.Answer.{mostUnits, unitsAfter, eventAnswer, inTime, checks, answerWith, answerOf}
 use Rattle.recorder.specs.Needs.{Good, Goes, Resets, Flaggable}
@@ -55,16 +55,20 @@ pub count-judged : (r : Recorder) (c : ℕ) (u : RegisterUnits) (a b : ℕ) → 
 count-judged r c u a b p q t = rw (t, q, p)
 
 -- the lengths that passed
-pub right-lengths : (cap v s m : ℕ) → rightLengths cap v s m ≡ true → (v ≡ cap * dayValues) × (s ≡ cap) × (m ≡ cap * dayWords)
+pub right-lengths : (cap v s m : ℕ) → rightLengths cap v s m ≡ true → (v ≡ cap * halvesOfDay) × (s ≡ cap) × (m ≡ cap * dayWords)
 right-lengths cap v s m e =
-    let a = both (eqb v (cap * dayValues) && eqb s cap) (eqb m (cap * dayWords)) e in
-    let b = both (eqb v (cap * dayValues)) (eqb s cap) (a .0) in
+    let a = both (eqb v (cap * halvesOfDay) && eqb s cap) (eqb m (cap * dayWords)) e in
+    let b = both (eqb v (cap * halvesOfDay)) (eqb s cap) (a .0) in
     (eqb-true _ _ (b .0), eqb-true _ _ (b .1), eqb-true _ _ (a .1))
 
 -- an answer of 0: no check fails
 pub answered : (r : Recorder) (e : Event) (v s m : ℕ) → answerWith r e v s m ≡ 0 → NoneFails (checks r e v s m)
 unfolding answerWith
 answered r e v s m a = none-fails (checks r e v s m) refl a
+
+pub given-answer : (x : Mem) (e : Event) → answerOf x e ≡ 0 → answerWith (x .recorder) e (length (x .store .values)) (length (x .store .starts)) (length (x .store .marks)) ≡ 0
+unfolding answerOf
+given-answer x e a = a
 
 pub days-few : (k : Class) → daysOf k ≤ mostDays
 days-few A = omega arith
@@ -75,8 +79,7 @@ days-few Blank = omega arith
 
 module _ (r : Recorder) (e : Event) (v s m : List ℕ) (a : answerOf (mem r v s m) e ≡ 0) where
   none : NoneFails (checks r e (length v) (length s) (length m))
-  unfolding answerOf
-  none = answered r e (length v) (length s) (length m) a
+  none = answered r e (length v) (length s) (length m) (given-answer (mem r v s m) e a)
 
   pub accepted-ranges : Ranges r
   accepted-ranges = ranges r (not-false (inRange r) (none .1 .1 .0))
@@ -90,18 +93,18 @@ module _ (r : Recorder) (e : Event) (v s m : List ℕ) (a : answerOf (mem r v s 
   accepted-counts = countable r accepted-ranges
 
   pub accepted-good : Good (mem r v s m)
-  accepted-good = let g = accepted-ranges in record { time = g .time; days = g .days-high; total = g .total; fits = accepted-fits }
+  accepted-good = let g = accepted-ranges in record { time = g .clock .time; days = g .clock .high; total = g .energy .total; fits = accepted-fits }
 
   pub accepted-flags : Flaggable r m
   accepted-flags =
-      record { time = accepted-ranges .time; words = record { some = accepted-fits .some; most = accepted-fits .most; marks = accepted-fits .marks } }
+      record { time = accepted-ranges .clock .time; words = record { some = accepted-fits .some; most = accepted-fits .most; marks = accepted-fits .marks } }
 
   pub accepted-resets : Resets r
-  accepted-resets = record { time = accepted-ranges .time; count = accepted-ranges .count }
+  accepted-resets = record { time = accepted-ranges .clock .time; count = accepted-ranges .demand .count }
 
   goes : (t : ℕ) → not (inTime (r .clock .time) t) ≡ false → Goes t (mem r v s m)
   goes t f =
-      let b = both (leb (r .clock .time) t) (ltb t endTime) (not-false (inTime (r .clock .time) t) f) in
+      let b = both (leb (r .clock .time) t) (ltb t timesInAll) (not-false (inTime (r .clock .time) t) f) in
       record { good = accepted-good; from = leb-true _ _ (b .0); to = ltb-true _ _ (b .1) }
 
   pub accepted-clock : (t : ℕ) → e ≡ Clock t → Goes t (mem r v s m)

@@ -18,8 +18,8 @@ use Rattle.registers.specs.declared.Present.{Present}
 use Rattle.registers.specs.Demand.{demandRaised, demandClosed}
 use Rattle.registers.specs.Energy.{runningFrom}
 use Rattle.registers.specs.Present.{presentAt}
-use Rattle.registers.specs.Time.{halfHour, daySeconds, endHalf}
-use Rattle.store.specs.Class.{dayValues}
+use Rattle.calendar.specs.Clock.{secondsOfDay, secondsOfHalf, halvesOfDay}
+use Rattle.registers.specs.Present.{halvesInAll}
 use Rattle.store.specs.Store.{Store, store, turned, passAt, passed, gone}
 use Rattle.store.specs.Store as onward
 use Rattle.store.proofs.Laws.{gone-fits}
@@ -53,32 +53,32 @@ abbrev passes : Recorder → ℕ → Store → Store
 passes r i s = passAt (capOf r) (lastFour (readingNow r) .0) (readingNow r .0) i s
 
 one-passed : (i days : ℕ) (on : Bool) (r : Recorder) (s : Store)
-    → closeOne (at (i * halfHour) on days (ended r) s) ≡ at ((i + 1) * halfHour) on (daysAfter (capOf r) i days) (ended r) (passes r i s)
+    → closeOne (at (i * secondsOfHalf) on days (ended r) s) ≡ at ((i + 1) * secondsOfHalf) on (daysAfter (capOf r) i days) (ended r) (passes r i s)
 unfolding closeOne ended
 one-passed i days on r s =
-    let h : i * halfHour / halfHour ≡ i = omega arith in
-    ap (λ (k : ℕ). at ((k + 1) * halfHour) on (daysAfter (capOf r) k days) (ended (ended r)) (passes r k s)) h
-    ∙ ap (λ (q : Recorder). at ((i + 1) * halfHour) on (daysAfter (capOf r) i days) q (passes r i s)) (ended-twice r)
+    let h : i * secondsOfHalf / secondsOfHalf ≡ i = omega arith in
+    ap (λ (k : ℕ). at ((k + 1) * secondsOfHalf) on (daysAfter (capOf r) k days) (ended (ended r)) (passes r k s)) h
+    ∙ ap (λ (q : Recorder). at ((i + 1) * secondsOfHalf) on (daysAfter (capOf r) i days) q (passes r i s)) (ended-twice r)
 
 -- the days stored, boundary by boundary and at one go
 days-few : (cap i days : ℕ) → days ≤ cap → daysAfter cap i days ≤ cap
-days-few cap i days l = by-test (eqb ((i + 1) % dayValues) 0) (λ t. rw t (omega arith)) (λ t. rw t l)
+days-few cap i days l = by-test (eqb ((i + 1) % halvesOfDay) 0) (λ t. rw t (omega arith)) (λ t. rw t l)
 
 days-on : (cap i n days : ℕ) → days ≤ cap
-    → min cap (daysAfter cap i days + ((i + 1 + n) / dayValues - (i + 1) / dayValues)) ≡ min cap (days + ((i + 1 + n) / dayValues - i / dayValues))
+    → min cap (daysAfter cap i days + ((i + 1 + n) / halvesOfDay - (i + 1) / halvesOfDay)) ≡ min cap (days + ((i + 1 + n) / halvesOfDay - i / halvesOfDay))
 days-on cap i n days l =
-    by-test (eqb ((i + 1) % dayValues) 0)
-    (λ t. rw t (let h : (i + 1) % dayValues ≡ 0 = eqb-true _ _ t in omega arith))
-    (λ t. rw t (let h : (i + 1) % dayValues ≡ 0 → ⊥ = eqb-false _ _ t in omega arith))
+    by-test (eqb ((i + 1) % halvesOfDay) 0)
+    (λ t. rw t (let h : (i + 1) % halvesOfDay ≡ 0 = eqb-true _ _ t in omega arith))
+    (λ t. rw t (let h : (i + 1) % halvesOfDay ≡ 0 → ⊥ = eqb-false _ _ t in omega arith))
 
 -- n such boundaries from i on
 passed-over : (n i days : ℕ) (on : Bool) (r : Recorder) (s : Store) → days ≤ capOf r
-    → each closeAt i n (at (i * halfHour) on days (ended r) s)
-    ≡ at ((i + n) * halfHour) on (min (capOf r) (days + ((i + n) / dayValues - i / dayValues))) (ended r) (each (passAt (capOf r) (lastFour (readingNow r) .0) (readingNow r .0)) i n s)
+    → each closeAt i n (at (i * secondsOfHalf) on days (ended r) s)
+    ≡ at ((i + n) * secondsOfHalf) on (min (capOf r) (days + ((i + n) / halvesOfDay - i / halvesOfDay))) (ended r) (each (passAt (capOf r) (lastFour (readingNow r) .0) (readingNow r .0)) i n s)
 unfolding each
 passed-over zero i days on r s l =
     let t : i + 0 ≡ i = omega arith in
-    let d : min (capOf r) (days + (i / dayValues - i / dayValues)) ≡ days = omega arith in
+    let d : min (capOf r) (days + (i / halvesOfDay - i / halvesOfDay)) ≡ days = omega arith in
     rw (t, d)
 passed-over (suc n) i days on r s l =
     let t : i + suc n ≡ i + 1 + n = omega arith in
@@ -88,7 +88,7 @@ passed-over (suc n) i days on r s l =
 -- all from the running half-hour up to a later one, n
 all-closed : (n : ℕ) (x : Mem) → x .recorder .clock .days ≤ capOf (x .recorder) → halfOf (x .recorder) < n
     → forTo closeAt (halfOf (x .recorder)) n x
-    ≡ at (n * halfHour) (x .recorder .clock .on) (min (capOf (x .recorder)) (x .recorder .clock .days + (n / dayValues - halfOf (x .recorder) / dayValues))) (ended (x .recorder)) (storeAt n (x .recorder) (x .store))
+    ≡ at (n * secondsOfHalf) (x .recorder .clock .on) (min (capOf (x .recorder)) (x .recorder .clock .days + (n / halvesOfDay - halfOf (x .recorder) / halvesOfDay))) (ended (x .recorder)) (storeAt n (x .recorder) (x .store))
 unfolding closeOne passed gone
 all-closed n x few l =
     let r = x .recorder in
@@ -101,21 +101,21 @@ all-closed n x few l =
     ∙ rw (days-on (capOf r) q k (r .clock .days) few, e)
 
 -- Clock(t) within the running half-hour, and past its end
-pub stayed : (t : ℕ) (x : Mem) → Goes t x → halfOf (x .recorder) ≡ t / halfHour → advanceTo t x ≡ with x (withClock (presentAt (capOf (x .recorder)) t (x .recorder .clock)) (x .recorder))
+pub stayed : (t : ℕ) (x : Mem) → Goes t x → halfOf (x .recorder) ≡ t / secondsOfHalf → advanceTo t x ≡ with x (withClock (presentAt (capOf (x .recorder)) t (x .recorder .clock)) (x .recorder))
 unfolding advanceTo each
 stayed t x g e =
     let r = x .recorder in
-    let z : t / halfHour - halfOf r ≡ 0 = omega arith in
-    let d : min (capOf r) (r .clock .days + (t / daySeconds - r .clock .time / daySeconds)) ≡ r .clock .days = omega (arith, g .good .days) in
+    let z : t / secondsOfHalf - halfOf r ≡ 0 = omega arith in
+    let d : min (capOf r) (r .clock .days + (t / secondsOfDay - r .clock .time / secondsOfDay)) ≡ r .clock .days = omega (arith, g .good .days) in
     rw (z, d)
 
-pub went : (t : ℕ) (x : Mem) → Goes t x → halfOf (x .recorder) < t / halfHour
-    → advanceTo t x ≡ record { recorder = goneTo t (x .recorder); store = storeAt (t / halfHour) (x .recorder) (x .store) }
+pub went : (t : ℕ) (x : Mem) → Goes t x → halfOf (x .recorder) < t / secondsOfHalf
+    → advanceTo t x ≡ record { recorder = goneTo t (x .recorder); store = storeAt (t / secondsOfHalf) (x .recorder) (x .store) }
 unfolding advanceTo
 went t x g l =
     let r = x .recorder in
-    let d : t / halfHour / dayValues - halfOf r / dayValues ≡ t / daySeconds - r .clock .time / daySeconds = omega arith in
-    ap (λ (y : Mem). with y (withClock (record { time = t; on = true; days = y .recorder .clock .days }) (y .recorder))) (all-closed (t / halfHour) x (g .good .days) l)
+    let d : t / secondsOfHalf / halvesOfDay - halfOf r / halvesOfDay ≡ t / secondsOfDay - r .clock .time / secondsOfDay = omega arith in
+    ap (λ (y : Mem). with y (withClock (record { time = t; on = true; days = y .recorder .clock .days }) (y .recorder))) (all-closed (t / secondsOfHalf) x (g .good .days) l)
     ∙ rw d
 
 -- so what is good stays good
@@ -123,13 +123,13 @@ pub gone-good : (t : ℕ) (x : Mem) → Goes t x → Good (advanceTo t x)
 unfolding ended
 gone-good t x g =
     let r = x .recorder in
-    by-dec (decLt (halfOf r) (t / halfHour))
+    by-dec (decLt (halfOf r) (t / secondsOfHalf))
     (λ l. rw (went t x g l)
     record {
       time = g .to;
       days = omega arith;
       total = g .good .total;
-      fits = gone-fits (capOf r) (halfOf r) (t / halfHour) (lastFour (readingNow r) .0) (readingNow r .0) (r .running .reverse) (r .running .level2) (x .store) (storeAt (t / halfHour) r (x .store)) refl (g .good .fits);
+      fits = gone-fits (capOf r) (halfOf r) (t / secondsOfHalf) (lastFour (readingNow r) .0) (readingNow r .0) (r .running .reverse) (r .running .level2) (x .store) (storeAt (t / secondsOfHalf) r (x .store)) refl (g .good .fits);
     })
     (λ n. rw (stayed t x g (omega (arith, g .from))) record { time = g .to; days = omega (arith, g .good .days); total = g .good .total; fits = g .good .fits })
 
@@ -138,18 +138,18 @@ module _ (t cap : ℕ) (r : Recorder) (p : Present) (v s m : List ℕ) (g : Goes
   present : p ≡ presentAt (capOf r) t (r .clock)
   present = a ∙ rw k
 
-  within : (n : ℕ) → n ≡ p .time / halfHour → n ≡ t / halfHour
-  within n c = c ∙ ap (λ (q : Present). q .time / halfHour) a
+  within : (n : ℕ) → n ≡ p .time / secondsOfHalf → n ≡ t / secondsOfHalf
+  within n c = c ∙ ap (λ (q : Present). q .time / secondsOfHalf) a
 
-  pub still-here : (q n : ℕ) (y : Recorder) → q ≡ halfOf r → n ≡ p .time / halfHour → q ≡ n → y ≡ withClock p r → mem y v s m ≡ advanceTo t (mem r v s m)
+  pub still-here : (q n : ℕ) (y : Recorder) → q ≡ halfOf r → n ≡ p .time / secondsOfHalf → q ≡ n → y ≡ withClock p r → mem y v s m ≡ advanceTo t (mem r v s m)
   still-here q n y b c e f =
       ap {B = Mem} (λ (w : Recorder). record { recorder = w; store = store v s m }) (f ∙ ap (λ (w : Present). withClock w r) present)
       ∙ sym (stayed t (mem r v s m) g (sym b ∙ e ∙ within n c))
 
-  pub gone-on : (q n : ℕ) (y z : Recorder) (v₁ s₁ m₁ : List ℕ) → q ≡ halfOf r → n ≡ p .time / halfHour → (q ≡ n → ⊥)
+  pub gone-on : (q n : ℕ) (y z : Recorder) (v₁ s₁ m₁ : List ℕ) → q ≡ halfOf r → n ≡ p .time / secondsOfHalf → (q ≡ n → ⊥)
       → store v₁ s₁ m₁ ≡ storeAt n r (store v s m) → y ≡ ended r → z ≡ withClock p y → mem z v₁ s₁ m₁ ≡ advanceTo t (mem r v s m)
   gone-on q n y z v₁ s₁ m₁ b c ne e f h =
-      let l : halfOf r < t / halfHour = omega (arith, g .from, within n c) in
+      let l : halfOf r < t / secondsOfHalf = omega (arith, g .from, within n c) in
       ap {B = Mem} (λ (w : Recorder). record { recorder = w; store = store v₁ s₁ m₁ }) (h ∙ rw (f, present))
       ∙ ap {B = Mem} (λ (w : Store). record { recorder = goneTo t r; store = w }) (e ∙ rw (within n c))
       ∙ sym (went t (mem r v s m) g l)
@@ -158,5 +158,5 @@ pub carried-on : (cap q n : ℕ) (u : RegisterUnits) (r : Recorder) (x y : Store
     → y ≡ gone cap q n (lastFour u .0) (u .0) (r .running .reverse) (r .running .level2) x → y ≡ storeAt n r x
 carried-on cap q n u r x y a b c e = e ∙ rw (a, b, c)
 
-pub carry-goes : (cap q : ℕ) (u : RegisterUnits) (r : Recorder) (v s m : List ℕ) → Good (mem r v s m) → cap ≡ capOf r → q < endHalf → u ≡ readingNow r → onward.Goes cap q u (store v s m)
+pub carry-goes : (cap q : ℕ) (u : RegisterUnits) (r : Recorder) (v s m : List ℕ) → Good (mem r v s m) → cap ≡ capOf r → q < halvesInAll → u ≡ readingNow r → onward.Goes cap q u (store v s m)
 carry-goes cap q u r v s m g a l c = rw (a, c) record { turns = record { fits = g .fits; next = omega arith }; reading = omega (arith, g .total) }

@@ -4,4 +4,5 @@ pub mod Answers
 pub mod Boundaries
 pub mod Effects
 pub mod Setting
+pub mod Kept
 pub mod Starred

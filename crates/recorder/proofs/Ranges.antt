@@ -1,97 +1,139 @@
--- What a recorder in range has of its numbers, as plain bounds, and back.
+-- What a recorder in range has of its numbers, as plain bounds group by group, and back.
 -- Assumes nothing.
-use Prim.Native.Nat.{ℕ, _+_, _<_, _≤_}
-use mathlib.Core.Bool.{Bool, true, false, not, _&&_}
-use mathlib.Core.Path.{_≡_, refl}
+use Prim.Native.Nat.{ℕ, _+_, _/_, _<_, _≤_}
+use mathlib.Core.Bool.{Bool, true, _&&_}
+use mathlib.Core.Path.{_≡_}
 use borrow.Author.Tests.{ltb-true, leb-true, lt-ltb, le-leb}
-use lib.Dec.{ltb, leb}
+use lib.Dec.{leb}
 use lib.ListN.{getD}
-use Rattle.identifier.specs.Identifier.{idOk}
+use Rattle.calendar.specs.Calendar.{daysInAll}
+use Rattle.calendar.specs.Clock.{secondsOfDay, timesInAll}
+use Rattle.format.specs.Identifier.{identOk}
+use Rattle.laws.specs.Tests.{allTrue}
 use Rattle.laws.proofs.Bools.{both}
 use Rattle.laws.proofs.Tests.{allTrue-each, allTrue-of, all-at, all-of}
 use Rattle.quantity.specs.Units.{totalRound, readingRound, demandRound}
-use Rattle.registers.specs.Demand.{demandTests, countRound}
-use Rattle.registers.specs.Energy.{leastWeight, mostWeight, weightOk, rateCount, rateOk, rateTest, ratesOk, noEnergy, energyTests, Countable}
-use Rattle.registers.specs.Present.{presentTests}
-use Rattle.registers.specs.Time.{endDay, endTime}
-use Rattle.recorder.specs.Recorder.{Recorder, capOf, todayOf}
+use Rattle.registers.specs.declared.Demand.{Demand}
+use Rattle.registers.specs.declared.Energy.{Energy}
+use Rattle.registers.specs.declared.Present.{Present}
+use Rattle.registers.specs.Demand.{demandTests, demandOk, countRound}
+use Rattle.registers.specs.Energy.{leastWeight, mostWeight, rateCount, rateTest, ratesOk, noEnergy, energyTests, energyOk, Countable}
+use Rattle.registers.specs.Present.{presentTests, presentOk}
+use Rattle.recorder.specs.declared.Identity.{Identity}
+use Rattle.recorder.specs.Recorder.{Recorder, capOf}
 use Rattle.recorder.specs.Range.{identityTests, groups, inRange}
 
-pub record Ranges (r : Recorder) : Type 0 where
-  pub identifier : idOk (r .identity .identifier) ≡ true
-  pub weight-low : leastWeight ≤ r .identity .weight .0
-  pub weight-high : r .identity .weight .0 ≤ mostWeight
-  pub time : r .clock .time < endTime
-  pub days-low : 1 ≤ r .clock .days
-  pub days-high : r .clock .days ≤ capOf r
-  pub days-past : r .clock .days ≤ todayOf r + 1
-  pub total : r .energy .total .0 < totalRound
-  pub rate-low : 1 ≤ r .energy .rate
-  pub rate-high : r .energy .rate ≤ rateCount
-  pub rates : (i : ℕ) → i < rateCount → getD (r .energy .rates) i noEnergy .0 < totalRound
-  pub current : r .demand .current .0 < demandRound
-  pub previous : r .demand .previous .0 < demandRound
-  pub cumulative : r .demand .cumulative .0 < demandRound
-  pub reset : r .demand .reset ≤ endDay
-  pub count : r .demand .count < countRound
-  pub base : r .running .base .0 < readingRound
+pub record IdentityRanges (i : Identity) : Type 0 where
+  pub identifier : identOk (i .identifier) 0 ≡ true
+  pub low : leastWeight ≤ i .weight .0
+  pub high : i .weight .0 ≤ mostWeight
 
-pub ranges : (r : Recorder) → inRange r ≡ true → Ranges r
-unfolding inRange ratesOk
-ranges r e =
-    let g = allTrue-each (groups r) e in
-    let i = allTrue-each (identityTests (r .identity)) (g .0) in
-    let w = both (leb leastWeight (r .identity .weight .0)) (leb (r .identity .weight .0) mostWeight) (i .1 .0) in
-    let c = allTrue-each (presentTests (capOf r) (r .clock)) (g .1 .0) in
-    let n = allTrue-each (energyTests (r .energy)) (g .1 .1 .0) in
-    let a = both (leb 1 (r .energy .rate)) (leb (r .energy .rate) rateCount) (n .1 .0) in
-    let d = allTrue-each (demandTests (r .demand)) (g .1 .1 .1 .0) in
-    record {
-      identifier = i .0;
-      weight-low = leb-true _ _ (w .0);
-      weight-high = leb-true _ _ (w .1);
-      time = ltb-true _ _ (c .0);
-      days-low = leb-true _ _ (c .1 .0);
-      days-high = leb-true _ _ (c .1 .1 .0);
-      days-past = leb-true _ _ (c .1 .1 .1 .0);
-      total = ltb-true _ _ (n .0);
-      rate-low = leb-true _ _ (a .0);
-      rate-high = leb-true _ _ (a .1);
-      rates = λ k l. ltb-true _ _ (all-at (rateTest (r .energy .rates)) rateCount (n .1 .1 .0) k l);
-      current = ltb-true _ _ (d .0);
-      previous = ltb-true _ _ (d .1 .0);
-      cumulative = ltb-true _ _ (d .1 .1 .0);
-      reset = leb-true _ _ (d .1 .1 .1 .0);
-      count = ltb-true _ _ (d .1 .1 .1 .1 .0);
-      base = ltb-true _ _ (g .1 .1 .1 .1 .0);
-    }
+pub record PresentRanges (cap : ℕ) (p : Present) : Type 0 where
+  pub time : p .time < timesInAll
+  pub low : 1 ≤ p .days
+  pub high : p .days ≤ cap
+  pub past : p .days ≤ p .time / secondsOfDay + 1
+
+pub record EnergyRanges (e : Energy) : Type 0 where
+  pub total : e .total .0 < totalRound
+  pub low : 1 ≤ e .rate
+  pub high : e .rate ≤ rateCount
+  pub rates : (i : ℕ) → i < rateCount → getD (e .rates) i noEnergy .0 < totalRound
+
+pub record DemandRanges (d : Demand) : Type 0 where
+  pub current : d .current .0 < demandRound
+  pub previous : d .previous .0 < demandRound
+  pub cumulative : d .cumulative .0 < demandRound
+  pub reset : d .reset ≤ daysInAll
+  pub count : d .count < countRound
+
+pub record Ranges (r : Recorder) : Type 0 where
+  pub identity : IdentityRanges (r .identity)
+  pub clock : PresentRanges (capOf r) (r .clock)
+  pub energy : EnergyRanges (r .energy)
+  pub demand : DemandRanges (r .demand)
+  pub base : r .running .base .0 < readingRound
 
 both-of : (a b : Bool) → a ≡ true → b ≡ true → (a && b) ≡ true
 both-of a b p q = rw (p, q)
 
-pub in-range : (r : Recorder) → Ranges r → inRange r ≡ true
-unfolding inRange ratesOk
-in-range r g =
-    allTrue-of (groups r) (
-      allTrue-of (identityTests (r .identity)) (g .identifier, (both-of (leb leastWeight (r .identity .weight .0)) (leb (r .identity .weight .0) mostWeight) (le-leb _ _ (g .weight-low)) (le-leb _ _ (g .weight-high)), tt)),
+-- from a test to its bounds
+from-identity : (i : Identity) → allTrue (identityTests i) ≡ true → IdentityRanges i
+from-identity i e =
+    let t = allTrue-each (identityTests i) e in
+    let w = both (leb leastWeight (i .weight .0)) (leb (i .weight .0) mostWeight) (t .1 .0) in
+    record { identifier = t .0; low = leb-true _ _ (w .0); high = leb-true _ _ (w .1) }
+
+from-present : (cap : ℕ) (p : Present) → presentOk cap p ≡ true → PresentRanges cap p
+from-present cap p e =
+    let t = allTrue-each (presentTests cap p) e in
+    record { time = ltb-true _ _ (t .0); low = leb-true _ _ (t .1 .0); high = leb-true _ _ (t .1 .1 .0); past = leb-true _ _ (t .1 .1 .1 .0) }
+
+from-energy : (n : Energy) → energyOk n ≡ true → EnergyRanges n
+unfolding ratesOk
+from-energy n e =
+    let t = allTrue-each (energyTests n) e in
+    let a = both (leb 1 (n .rate)) (leb (n .rate) rateCount) (t .1 .0) in
+    record {
+      total = ltb-true _ _ (t .0);
+      low = leb-true _ _ (a .0);
+      high = leb-true _ _ (a .1);
+      rates = λ k l. ltb-true _ _ (all-at (rateTest (n .rates)) rateCount (t .1 .1 .0) k l);
+    }
+
+from-demand : (d : Demand) → demandOk d ≡ true → DemandRanges d
+from-demand d e =
+    let t = allTrue-each (demandTests d) e in
+    record {
+      current = ltb-true _ _ (t .0);
+      previous = ltb-true _ _ (t .1 .0);
+      cumulative = ltb-true _ _ (t .1 .1 .0);
+      reset = leb-true _ _ (t .1 .1 .1 .0);
+      count = ltb-true _ _ (t .1 .1 .1 .1 .0);
+    }
+
+pub ranges : (r : Recorder) → inRange r ≡ true → Ranges r
+unfolding inRange
+ranges r e =
+    let g = allTrue-each (groups r) e in
+    record {
+      identity = from-identity (r .identity) (g .0);
+      clock = from-present (capOf r) (r .clock) (g .1 .0);
+      energy = from-energy (r .energy) (g .1 .1 .0);
+      demand = from-demand (r .demand) (g .1 .1 .1 .0);
+      base = ltb-true _ _ (g .1 .1 .1 .1 .0);
+    }
+
+-- and back
+to-identity : (i : Identity) → IdentityRanges i → allTrue (identityTests i) ≡ true
+to-identity i g =
+    allTrue-of (identityTests i)
+    (g .identifier, (both-of (leb leastWeight (i .weight .0)) (leb (i .weight .0) mostWeight) (le-leb _ _ (g .low)) (le-leb _ _ (g .high)), tt))
+
+to-present : (cap : ℕ) (p : Present) → PresentRanges cap p → presentOk cap p ≡ true
+to-present cap p g = allTrue-of (presentTests cap p) (lt-ltb _ _ (g .time), (le-leb _ _ (g .low), (le-leb _ _ (g .high), (le-leb _ _ (g .past), tt))))
+
+to-energy : (n : Energy) → EnergyRanges n → energyOk n ≡ true
+unfolding ratesOk
+to-energy n g =
+    allTrue-of (energyTests n) (
+      lt-ltb _ _ (g .total),
       (
-        allTrue-of (presentTests (capOf r) (r .clock)) (lt-ltb _ _ (g .time), (le-leb _ _ (g .days-low), (le-leb _ _ (g .days-high), (le-leb _ _ (g .days-past), tt)))),
-        (
-          allTrue-of (energyTests (r .energy)) (
-            lt-ltb _ _ (g .total),
-            (
-              both-of (leb 1 (r .energy .rate)) (leb (r .energy .rate) rateCount) (le-leb _ _ (g .rate-low)) (le-leb _ _ (g .rate-high)),
-              (all-of (rateTest (r .energy .rates)) rateCount (λ k l. lt-ltb _ _ (g .rates k l)), tt),
-            ),
-          ),
-          (
-            allTrue-of (demandTests (r .demand))
-                (lt-ltb _ _ (g .current), (lt-ltb _ _ (g .previous), (lt-ltb _ _ (g .cumulative), (le-leb _ _ (g .reset), (lt-ltb _ _ (g .count), tt))))),
-            (lt-ltb _ _ (g .base), tt),
-          ),
-        ),
+        both-of (leb 1 (n .rate)) (leb (n .rate) rateCount) (le-leb _ _ (g .low)) (le-leb _ _ (g .high)),
+        (all-of (rateTest (n .rates)) rateCount (λ k l. lt-ltb _ _ (g .rates k l)), tt),
       ),
     )
 
+to-demand : (d : Demand) → DemandRanges d → demandOk d ≡ true
+to-demand d g =
+    allTrue-of (demandTests d)
+    (lt-ltb _ _ (g .current), (lt-ltb _ _ (g .previous), (lt-ltb _ _ (g .cumulative), (le-leb _ _ (g .reset), (lt-ltb _ _ (g .count), tt)))))
+
+pub in-range : (r : Recorder) → Ranges r → inRange r ≡ true
+unfolding inRange
+in-range r g =
+    allTrue-of (groups r)
+    (to-identity (r .identity) (g .identity), (to-present (capOf r) (r .clock) (g .clock), (to-energy (r .energy) (g .energy), (to-demand (r .demand) (g .demand), (lt-ltb _ _ (g .base), tt)))))
+
 pub countable : (r : Recorder) → Ranges r → Countable (r .identity .weight) (r .energy)
-countable r g = record { weight = g .weight-high; total = g .total; low = g .rate-low; high = g .rate-high }
+countable r g = record { weight = g .identity .high; total = g .energy .total; low = g .energy .low; high = g .energy .high }

@@ -13,7 +13,7 @@ use Rattle.laws.proofs.Tests.{allTrue-each}
 use Rattle.laws.specs.Tests.{allTrue}
 use Rattle.quantity.specs.declared.RegisterUnits.{RegisterUnits}
 use Rattle.quantity.specs.Units.{readingOf, lastFour}
-use Rattle.registers.specs.Time.{halfHour}
+use Rattle.calendar.specs.Clock.{secondsOfHalf}
 use Rattle.store.specs.Begun.{begun}
 use Rattle.store.specs.Class.{daysOf, rightLengths}
 use Rattle.store.specs.Store.{Store, Fits, Goes, store}
@@ -74,8 +74,8 @@ set-up-done g y a v s m v₁ s₁ m₁ p z e q =
     ∙ rw (← p, z)
 
 module _ (g : SetUp) (cap : ℕ) (u : RegisterUnits) (a : cap ≡ daysOf (g .class)) (b : u ≡ readingOf (g .total)) where
-  pub store-goes : (x : Store) → Begins g x → Goes cap (g .time / halfHour) u x
+  pub store-goes : (x : Store) → Begins g x → Goes cap (g .time / secondsOfHalf) u x
   store-goes x h = rw (a, b) record { turns = record { fits = h .fits; next = omega (arith, h .time) }; reading = omega (arith, h .total) }
 
-  pub store-begun : (x : Store) → x ≡ begun cap (g .time / halfHour) (lastFour u .0) (u .0) → x ≡ storeBegun g
+  pub store-begun : (x : Store) → x ≡ begun cap (g .time / secondsOfHalf) (lastFour u .0) (u .0) → x ≡ storeBegun g
   store-begun x e = e ∙ rw (a, b)

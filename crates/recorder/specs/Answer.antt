@@ -6,7 +6,7 @@ use lib.Dec.{ltb, leb, eqb}
 use lib.ListN.{length}
 use Rattle.laws.specs.Checks.{Check, check, firstFailing}
 use Rattle.registers.specs.Energy.{rateOk, unitsWith}
-use Rattle.registers.specs.Time.{endTime}
+use Rattle.calendar.specs.Clock.{timesInAll}
 use Rattle.store.specs.Class.{rightLengths}
 use Rattle.recorder.specs.Recorder.{Recorder, Mem, Event, Count, Clock, Off, On, Access, Meter, Reset, Rate, Reverse, capOf}
 use Rattle.recorder.specs.Range.{inRange}
@@ -43,7 +43,7 @@ badRate Reverse = false
 
 -- 2: a time before the present one or past 2099
 abbrev pub inTime : ℕ → ℕ → Bool
-inTime now t = leb now t && ltb t endTime
+inTime now t = leb now t && ltb t timesInAll
 
 abbrev pub badTime : ℕ → Event → Bool
 badTime now (Count c) = false

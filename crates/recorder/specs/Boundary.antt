@@ -8,8 +8,7 @@ use Rattle.quantity.specs.Units.{lastFour}
 use Rattle.registers.specs.Demand.{demandClosed}
 use Rattle.registers.specs.Energy.{runningFrom}
 use Rattle.registers.specs.Present.{presentAt}
-use Rattle.registers.specs.Time.{halfHour}
-use Rattle.store.specs.Class.{dayValues}
+use Rattle.calendar.specs.Clock.{secondsOfHalf, halvesOfDay}
 use Rattle.store.specs.Store.{Store, turned, gone}
 use Rattle.recorder.specs.Recorder.{Recorder, Mem, with, capOf, halfOf, readingNow, withClock, withDemand, withRunning}
 
@@ -19,14 +18,14 @@ ended r = withDemand (demandClosed (r .energy) (r .running) (r .demand)) (withRu
 
 -- the days stored once half-hour q has ended
 abbrev pub daysAfter : ℕ → ℕ → ℕ → ℕ
-daysAfter cap q days = cond (eqb ((q + 1) % dayValues) 0) (min cap (days + 1)) days
+daysAfter cap q days = cond (eqb ((q + 1) % halvesOfDay) 0) (min cap (days + 1)) days
 
 -- one boundary
 unfoldable pub closeOne : Mem → Mem
 closeOne x =
     let r = x .recorder in
     record {
-      recorder = withClock (record { time = (halfOf r + 1) * halfHour; on = r .clock .on; days = daysAfter (capOf r) (halfOf r) (r .clock .days) }) (ended r);
+      recorder = withClock (record { time = (halfOf r + 1) * secondsOfHalf; on = r .clock .on; days = daysAfter (capOf r) (halfOf r) (r .clock .days) }) (ended r);
       store = turned (capOf r) (halfOf r) (lastFour (readingNow r) .0) (readingNow r .0) (r .running .reverse) (r .running .level2) (x .store);
     }
 
@@ -36,7 +35,7 @@ closeAt k x = closeOne x
 -- those from the running half-hour up to that of t, and then it is t, with power on
 unfoldable pub advanceTo : ℕ → Mem → Mem
 advanceTo t x =
-    let y = forTo closeAt (halfOf (x .recorder)) (t / halfHour) x in
+    let y = forTo closeAt (halfOf (x .recorder)) (t / secondsOfHalf) x in
     with y (withClock (record { time = t; on = true; days = y .recorder .clock .days }) (y .recorder))
 
 -- the same at one go, where t lies in a later half-hour: the running one ends, and the others are passed over

@@ -2,6 +2,9 @@
 use Prim.Native.Nat.{ℕ}
 use mathlib.Core.List.{List, [], _∷_}
 use lib.ListN.{replicate}
+use Rattle.calendar.specs.Calendar.{realDate}
+use Rattle.calendar.specs.Clock.{endedOn}
+use Rattle.laws.specs.Bits.{bit}
 use Rattle.quantity.specs.Units.{wattHours, units, centiKilowatts, readingOf, demandOf}
 use Rattle.registers.specs.Energy.{pulsesOf}
 use Rattle.store.specs.declared.Class.the-variants.{A}
@@ -10,7 +13,7 @@ use Rattle.recorder.specs.Recorder.{Mem, Event, Count, Clock, Off, On, R
 use Rattle.recorder.specs.Answer.{answerOf}
 use Rattle.recorder.specs.Step.{step, run}
 use Rattle.recorder.specs.SetUp.{given, setUp}
-use Rattle.recorder.specs.Stored.{endedAt, valueOf, flagsWord, advanced}
+use Rattle.recorder.specs.Stored.{valueOf, flagsWord, advanced}
 
 -- a row of the table
 pub record Case : Type 0 where
@@ -59,11 +62,13 @@ cases =
     }
     -- 00:29:59 to 00:30:00 closes the first half-hour
     ∷ record {
-      given = endedAt 1799 0 ∷ endedAt 1800 0 ∷ valueOf (run (meter 1799 123450 0 10) (Count 1 ∷ Clock 1800 ∷ [])) 0 0 ∷ [];
+      given = endedOn 1799 0 ∷ endedOn 1800 0 ∷ valueOf (run (meter 1799 123450 0 10) (Count 1 ∷ Clock 1800 ∷ [])) 0 0 ∷ [];
       due = 0 ∷ 1 ∷ 2346 ∷ [];
     }
     -- Clock to the same second / one earlier: accepted / 2
     ∷ record { given = answerOf (meter 1800 0 0 1) (Clock 1800) ∷ answerOf (meter 1800 0 0 1) (Clock 1799) ∷ []; due = 0 ∷ 2 ∷ [] }
+    -- 240229 / 230229: real / unreal
+    ∷ record { given = bit (realDate 24 2 29) ∷ bit (realDate 23 2 29) ∷ []; due = 1 ∷ 0 ∷ [] }
     -- advance 50: demand 000100
     ∷ record { given = demandOf (units 50) .0 ∷ run (meter 0 0 0 10) (Count 50 ∷ Clock 1800 ∷ []) .recorder .demand .current .0 ∷ []; due = 100 ∷ 100 ∷ [] }
     -- cumulative 999999, current 2, count 99, Reset: 000001, count 00

@@ -3,14 +3,14 @@ use Prim.Native.Nat.{ℕ, _<_, _≤_}
 use mathlib.Core.List.{List}
 use Rattle.quantity.specs.Units.{totalRound}
 use Rattle.registers.specs.Demand.{countRound}
-use Rattle.registers.specs.Time.{endTime}
+use Rattle.calendar.specs.Clock.{timesInAll}
 use Rattle.store.specs.Class.{daysOf}
 use Rattle.store.specs.Store.{Store, Fits, Words}
 use Rattle.recorder.specs.declared.SetUp.{SetUp}
 use Rattle.recorder.specs.Recorder.{Recorder, Mem, capOf}
 
 pub record Good (x : Mem) : Type 0 where
-  pub time : x .recorder .clock .time < endTime
+  pub time : x .recorder .clock .time < timesInAll
   pub days : x .recorder .clock .days ≤ capOf (x .recorder)
   pub total : x .recorder .energy .total .0 < totalRound
   pub fits : Fits (capOf (x .recorder)) (x .store)
@@ -19,20 +19,20 @@ pub record Good (x : Mem) : Type 0 where
 pub record Goes (t : ℕ) (x : Mem) : Type 0 where
   pub good : Good x
   pub from : x .recorder .clock .time ≤ t
-  pub to : t < endTime
+  pub to : t < timesInAll
 
 -- a Reset
 pub record Resets (r : Recorder) : Type 0 where
-  pub time : r .clock .time < endTime
+  pub time : r .clock .time < timesInAll
   pub count : r .demand .count < countRound
 
 -- flags
 pub record Flaggable (r : Recorder) (m : List ℕ) : Type 0 where
-  pub time : r .clock .time < endTime
+  pub time : r .clock .time < timesInAll
   pub words : Words (capOf r) m
 
 -- a set-up that is accepted
 pub record Begins (s : SetUp) (x : Store) : Type 0 where
-  pub time : s .time < endTime
+  pub time : s .time < timesInAll
   pub total : s .total .0 < totalRound
   pub fits : Fits (daysOf (s .class)) x

@@ -2,7 +2,7 @@
 use mathlib.Core.Bool.{Bool}
 use mathlib.Core.List.{List, [], _∷_}
 use lib.Dec.{ltb}
-use Rattle.identifier.specs.Identifier.{idOk}
+use Rattle.format.specs.Identifier.{identOk}
 use Rattle.laws.specs.Tests.{allTrue}
 use Rattle.quantity.specs.Units.{readingRound}
 use Rattle.registers.specs.Demand.{demandOk}
@@ -11,7 +11,7 @@ use Rattle.registers.specs.Present.{presentOk}
 use Rattle.recorder.specs.Recorder.{Identity, Recorder, capOf}
 
 abbrev pub identityTests : Identity → List Bool
-identityTests i = idOk (i .identifier) ∷ weightOk (i .weight) ∷ []
+identityTests i = identOk (i .identifier) 0 ∷ weightOk (i .weight) ∷ []
 
 abbrev pub groups : Recorder → List Bool
 groups r =

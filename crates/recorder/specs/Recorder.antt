@@ -7,7 +7,7 @@ use Rattle.registers.specs.declared.Demand.{Demand}
 use Rattle.registers.specs.declared.Energy.{Energy}
 use Rattle.registers.specs.declared.Present.{Present}
 use Rattle.registers.specs.declared.Running.{Running}
-use Rattle.registers.specs.Time.{halfHour, daySeconds}
+use Rattle.calendar.specs.Clock.{secondsOfDay, secondsOfHalf}
 use Rattle.store.specs.Class.{daysOf}
 use Rattle.store.specs.Store.{Store, store}
 pub use Rattle.recorder.specs.declared.Identity.{Identity}
@@ -30,10 +30,10 @@ abbrev pub capOf : Recorder → ℕ
 capOf r = daysOf (r .identity .class)
 
 abbrev pub halfOf : Recorder → ℕ
-halfOf r = r .clock .time / halfHour
+halfOf r = r .clock .time / secondsOfHalf
 
 abbrev pub todayOf : Recorder → ℕ
-todayOf r = r .clock .time / daySeconds
+todayOf r = r .clock .time / secondsOfDay
 
 abbrev pub readingNow : Recorder → RegisterUnits
 readingNow r = readingOf (r .energy .total)

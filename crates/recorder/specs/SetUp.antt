@@ -5,7 +5,7 @@ use mathlib.Core.Bool.{Bool, true, false, not, cond}
 use mathlib.Core.List.{List, [], _∷_}
 use lib.Dec.{ltb, leb, eqb}
 use lib.ListN.{length, replicate}
-use Rattle.identifier.specs.Identifier.{idOk}
+use Rattle.format.specs.Identifier.{identOk}
 use Rattle.laws.specs.Checks.{Check, check, firstFailing}
 use Rattle.laws.specs.Tests.{allTrue}
 use Rattle.quantity.specs.declared.WattHours.{WattHours}
@@ -14,7 +14,7 @@ use Rattle.registers.specs.declared.Energy.{Energy}
 use Rattle.registers.specs.declared.Present.{Present}
 use Rattle.registers.specs.Demand.{noDemand}
 use Rattle.registers.specs.Energy.{noEnergy, weightOk, energyFrom, runningFrom}
-use Rattle.registers.specs.Time.{halfHour, endTime}
+use Rattle.calendar.specs.Clock.{secondsOfHalf, timesInAll}
 use Rattle.store.specs.declared.Class.{Class}
 use Rattle.store.specs.declared.Class.the-variants.{Blank}
 use Rattle.store.specs.Begun.{begun}
@@ -30,7 +30,7 @@ given identifier class weight time total counter =
 
 abbrev pub setUpTests : SetUp → List Bool
 setUpTests s =
-    idOk (s .identifier) ∷ leb 1 (daysOf (s .class)) ∷ weightOk (s .weight) ∷ ltb (s .time) endTime ∷ ltb (s .total .0) totalRound ∷ []
+    identOk (s .identifier) 0 ∷ leb 1 (daysOf (s .class)) ∷ weightOk (s .weight) ∷ ltb (s .time) timesInAll ∷ ltb (s .total .0) totalRound ∷ []
 
 -- with a store of these lengths
 abbrev pub setUpChecks : SetUp → ℕ → ℕ → ℕ → List Check
@@ -60,7 +60,7 @@ blank = started (record { identifier = replicate 12 0; class = Blank; weight = n
 abbrev pub storeBegun : SetUp → Store
 storeBegun s =
     let reading = readingOf (s .total) in
-    begun (daysOf (s .class)) (s .time / halfHour) (lastFour reading .0) (reading .0)
+    begun (daysOf (s .class)) (s .time / secondsOfHalf) (lastFour reading .0) (reading .0)
 
 unfoldable pub made : SetUp → Mem
 made s = record { recorder = fresh s; store = storeBegun s }

@@ -5,8 +5,9 @@ ghost use mathlib.Core.Bool.{not, cond};
 ghost use Prim.Native.Nat.{max, _<_, _≤_, _+_, _-_, _/_};
 ghost use lib.Dec.{ltb};
 ghost use Rattle.laws.specs.Tests.{allTrue};
+ghost use Rattle.format.specs.Identifier.{identOk};
 ghost use Rattle.registers.specs.Energy.{Countable, rateOk};
-ghost use Rattle.registers.specs.Time.{halfHour};
+ghost use Rattle.calendar.specs.Clock.{secondsOfHalf};
 ghost use Rattle.store.specs.Class.{mostDays};
 ghost use Rattle.store.specs.Store.{store, flagAt, flagged};
 ghost use Rattle.recorder.specs.Recorder.{mem, capOf, todayOf, withClock};
@@ -67,8 +68,6 @@ pub struct SetUp {
     pub counter: u32,
 }
 
-const HALF_HOUR: u64 = 1800;
-
 const MOST_UNITS: u64 = 9999;
 
 const POWER_LOST: u64 = 0x80;
@@ -109,7 +108,7 @@ fn time_answer(wrong: bool, now: u64, t: u64) -> u32
     first_of(
         wrong,
         1,
-        first_of(!((now <= t) & (t < registers::END_TIME)), 2, 0),
+        first_of(!((now <= t) & (t < calendar::TIMES_IN_ALL)), 2, 0),
     )
 }
 
@@ -119,12 +118,18 @@ fn rate_answer(wrong: bool, n: u32) -> u32
     first_of(wrong, 1, first_of(!registers::rate_ok(n), 6, 0))
 }
 
+fn identifier_ok(id: [u8; 12]) -> bool
+    ensures { λ r. ⌜ r ≡ identOk id 0 ⌝ }
+{
+    format::is_identifier(&id, 0)
+}
+
 impl Identity {
     fn in_range(self) -> bool
         ensures { λ r. ⌜ r ≡ allTrue (identityTests self) ⌝ }
     {
         let id = self.identifier;
-        identifier::valid(id) & registers::weight_ok(self.weight)
+        identifier_ok(id) & registers::weight_ok(self.weight)
     }
 }
 
@@ -499,10 +504,10 @@ impl SetUp {
     {
         let id = self.identifier;
         let class = self.class;
-        identifier::valid(id)
+        identifier_ok(id)
             & (1 <= class.days())
             & registers::weight_ok(self.weight)
-            & (self.time < registers::END_TIME)
+            & (self.time < calendar::TIMES_IN_ALL)
             & (self.total.0 < quantity::TOTAL_ROUND)
     }
 
@@ -544,7 +549,7 @@ impl SetUp {
         ensures { λ _. ⌜ store (now (values .exit)) (now (starts .exit)) (now (marks .exit)) ≡ storeBegun self ⌝ }
     {
         let class = self.class;
-        let q = (self.time / HALF_HOUR) as u32;
+        let q = (self.time / calendar::SECONDS_OF_HALF) as u32;
         store::begin(class.days(), q, self.total.reading(), values, starts, marks);
     }
 }

@@ -11,7 +11,7 @@ use Rattle.registers.specs.declared.Demand.{Demand}
 use Rattle.registers.specs.declared.Energy.{Energy}
 use Rattle.registers.specs.declared.Running.{Running}
 use Rattle.registers.specs.Energy.{demandSince}
-use Rattle.registers.specs.Time.{endDay}
+use Rattle.calendar.specs.Calendar.{daysInAll}
 
 -- a reset count has two digits
 abbrev pub countRound : ℕ
@@ -23,7 +23,7 @@ demandTests d =
     ltb (d .current .0) demandRound
     ∷ ltb (d .previous .0) demandRound
     ∷ ltb (d .cumulative .0) demandRound
-    ∷ leb (d .reset) endDay
+    ∷ leb (d .reset) daysInAll
     ∷ ltb (d .count) countRound ∷ []
 
 abbrev pub demandOk : Demand → Bool
@@ -56,5 +56,5 @@ noDemand = record { current = centiKilowatts 0; previous = centiKilowatts 0; cum
 
 -- what a Reset asks, as plain bounds
 pub record Resettable (on : ℕ) (d : Demand) : Type 0 where
-  pub day : on < endDay
+  pub day : on < daysInAll
   pub count : d .count < countRound

@@ -1,4 +1,3 @@
-pub mod Time
 pub mod Present
 pub mod Energy
 pub mod Demand

@@ -5,7 +5,9 @@ ghost use Rattle.quantity.specs.Units.{units, readingOf};
 ghost use Rattle.registers.specs.Energy.{Countable, runningFrom, energyFrom, demandSince, weightOk, rateOk, ratesOk, energyOk, pulsesOf, addedOf, mostAdded, unitsWith, energyCounted};
 ghost use Rattle.registers.specs.Demand.{Resettable, demandOk, larger, demandClosed, demandReset, noDemand};
 ghost use Rattle.registers.specs.Present.{Later, presentOk, presentAt};
-ghost use Rattle.registers.specs.Time.{halfHour, daySeconds, endHalf, endDay, endTime};
+ghost use Rattle.calendar.specs.Calendar.{daysInAll};
+ghost use Rattle.calendar.specs.Clock.{secondsOfDay, secondsOfHalf, timesInAll};
+ghost use Rattle.registers.specs.Present.{halvesInAll};
 use quantity::CentiKilowatts;
 use quantity::RegisterUnits;
 use quantity::WattHours;
@@ -47,14 +49,6 @@ const RATES: u32 = 8;
 
 const COUNT_ROUND: u32 = 100;
 
-const END_DAY: u32 = 36525;
-
-const HALF_HOUR: u64 = 1800;
-
-const DAY: u64 = 86400;
-
-pub const END_TIME: u64 = 3155760000;
-
 fn smaller(a: u32, b: u32) -> u32
     ensures { λ r. ⌜ r ≡ min a b ⌝ }
 {
@@ -65,33 +59,34 @@ impl Present {
     pub fn in_range(self, cap: u32) -> bool
         ensures { λ r. ⌜ r ≡ presentOk cap self ⌝ }
     {
-        (self.time < END_TIME)
+        (self.time < calendar::TIMES_IN_ALL)
             & (1 <= self.days)
             & (self.days <= cap)
-            & ((self.days as u64) <= self.time / DAY + 1)
+            & ((self.days as u64) <= self.time / calendar::SECONDS_OF_DAY + 1)
     }
 
     // The numbers of today and of the running half-hour.
     pub fn today(self) -> u32
-        requires { ⌜ self .time < endTime ⌝ }
-        ensures { λ r. ⌜ (r ≡ self .time / daySeconds) × (r < endDay) ⌝ }
+        requires { ⌜ self .time < timesInAll ⌝ }
+        ensures { λ r. ⌜ (r ≡ self .time / secondsOfDay) × (r < daysInAll) ⌝ }
     {
-        (self.time / DAY) as u32
+        (self.time / calendar::SECONDS_OF_DAY) as u32
     }
 
     pub fn half(self) -> u32
-        requires { ⌜ self .time < endTime ⌝ }
-        ensures { λ r. ⌜ (r ≡ self .time / halfHour) × (r < endHalf) ⌝ }
+        requires { ⌜ self .time < timesInAll ⌝ }
+        ensures { λ r. ⌜ (r ≡ self .time / secondsOfHalf) × (r < halvesInAll) ⌝ }
     {
-        (self.time / HALF_HOUR) as u32
+        (self.time / calendar::SECONDS_OF_HALF) as u32
     }
 
     // It is t, with power on.
     pub fn gone_to(mut self, cap: u32, t: u64) -> Present
         requires { ⌜ Later cap t self ⌝ }
-        ensures { λ r. ⌜ (r ≡ presentAt cap t self) × (r .time < endTime) ⌝ }
+        ensures { λ r. ⌜ (r ≡ presentAt cap t self) × (r .time < timesInAll) ⌝ }
     {
-        let midnights = (t / DAY - self.time / DAY) as u32;
+        let midnights = (t / calendar::SECONDS_OF_DAY
+            - self.time / calendar::SECONDS_OF_DAY) as u32;
         self.days = smaller(cap, self.days + midnights);
         self.time = t;
         self.on = true;
@@ -238,7 +233,7 @@ impl Demand {
         (self.current.0 < quantity::DEMAND_ROUND)
             & (self.previous.0 < quantity::DEMAND_ROUND)
             & (self.cumulative.0 < quantity::DEMAND_ROUND)
-            & (self.reset <= END_DAY)
+            & (self.reset <= calendar::DAYS_IN_ALL)
             & (self.count < COUNT_ROUND)
     }
 

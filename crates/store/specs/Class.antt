@@ -3,6 +3,7 @@
 use Prim.Native.Nat.{ℕ, _*_}
 use mathlib.Core.Bool.{Bool, _&&_}
 use lib.Dec.{eqb}
+use Rattle.calendar.specs.Clock.{halvesOfDay}
 use Rattle.store.specs.declared.Class.{Class}
 use Rattle.store.specs.declared.Class.the-variants.{A, B, C, D, Blank}
 
@@ -18,12 +19,9 @@ abbrev pub mostDays : ℕ
 mostDays = 450
 
 -- what a day takes of the store: a value for each half-hour, one start, and three words (reverse marks, Level 2 marks, flags)
-abbrev pub dayValues : ℕ
-dayValues = 48
-
 abbrev pub dayWords : ℕ
 dayWords = 3
 
 -- the lengths of the three slices
 abbrev pub rightLengths : ℕ → ℕ → ℕ → ℕ → Bool
-rightLengths cap values starts marks = eqb values (cap * dayValues) && eqb starts cap && eqb marks (cap * dayWords)
+rightLengths cap values starts marks = eqb values (cap * halvesOfDay) && eqb starts cap && eqb marks (cap * dayWords)

@@ -3,8 +3,8 @@ use borrow.Author.Needs.{needs}
 use Rattle.recorder.proofs.Identity.in_range.Statement.{statement}
 use Rattle.recorder.proofs.Identity.in_range.Tie as tie
 
-valid-requires : tie.Need-valid-requires
-valid-requires c κs = search needs
+identifier-ok-requires : tie.Need-identifier-ok-requires
+identifier-ok-requires c κs = search needs
 
 weight-ok-requires : tie.Need-weight-ok-requires
 weight-ok-requires c κs = search needs
@@ -13,4 +13,4 @@ returns : tie.Need-returns
 returns c = cc
 
 pub in-range-spec : {M : Type 1} → statement M
-in-range-spec = tie.close (tie.spec valid-requires weight-ok-requires returns)
+in-range-spec = tie.close (tie.spec identifier-ok-requires weight-ok-requires returns)

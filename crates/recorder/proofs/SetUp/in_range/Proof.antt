@@ -3,8 +3,8 @@ use borrow.Author.Needs.{needs}
 use Rattle.recorder.proofs.SetUp.in_range.Statement.{statement}
 use Rattle.recorder.proofs.SetUp.in_range.Tie as tie
 
-valid-requires : tie.Need-valid-requires
-valid-requires c κs = search needs
+identifier-ok-requires : tie.Need-identifier-ok-requires
+identifier-ok-requires c κs = search needs
 
 days-requires : tie.Need-days-requires
 days-requires c κs = search needs
@@ -16,4 +16,5 @@ returns : tie.Need-returns
 returns c = cc
 
 pub in-range-spec : {M : Type 1} → statement M
-in-range-spec = tie.close (tie.spec valid-requires days-requires weight-ok-requires returns)
+in-range-spec =
+    tie.close (tie.spec identifier-ok-requires days-requires weight-ok-requires returns)

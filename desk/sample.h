@@ -1,0 +1,17 @@
+/* Blocks as an outstation would send them, made up: for the benchmark, and for the comparison with plain C. */
+#ifndef SAMPLE_H
+#define SAMPLE_H
+
+#include <stddef.h>
+#include <stdint.h>
+
+#define SAMPLE_METER "ABCX24000017"
+
+/* The next of a run of numbers, which is the same for the same seed. */
+uint32_t sample_next(uint64_t *seed);
+
+/* Writes a block of so many days, 0 to 450, read ten minutes after half-hour k of `day` began; returns its length, COP6_BLOCK_BYTES(days).
+ * Blocks of the same life agree with each other. */
+size_t sample_block(uint8_t *out, uint32_t days, uint32_t day, uint32_t k, uint32_t life);
+
+#endif
