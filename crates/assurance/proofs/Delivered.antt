@@ -14,6 +14,7 @@ use Rattle.laws.specs.Checks.{check}
 use Rattle.laws.specs.Tests.{sumBelow}
 use Rattle.laws.proofs.Checks.{none-fails, passed-first}
 use Rattle.laws.proofs.Split.{by-test, by-dec}
+use Rattle.laws.proofs.Tests.{sum-same}
 use Rattle.block.specs.declared.Answer.{Answer}
 use Rattle.block.specs.Fields.{identIn}
 use Rattle.block.specs.Parse.{fields, parse}
@@ -263,19 +264,24 @@ module _ (s : SetUp) (x : Store) (cs : List Call) (accepted : setUp s x .answer 
       λ o. by-dec (decLt j k) (λ below. absurd (o .1 (iff j .0 below))) (λ above. (omega arith, omega (arith, o .0))),
     )
 
-    day-held : (i : ℕ) → i < days → DayHeld s x cs l first days bs (first + i) (slot (filed s x cs l first days bs) i) (missingOf (filed s x cs l first days bs) (first + i))
+    held-at : (i : ℕ) → i < days → heldOn (filed s x cs l first days bs) (first + i) ≡ slot (filed s x cs l first days bs) i
+    unfolding heldOn
+    held-at i j = let at : first + i - first ≡ i = omega arith in rw (in-window i j, first-is, at)
+
+    day-held : (i : ℕ) → i < days → DayHeld s x cs l first days bs (first + i) (heldOn (filed s x cs l first days bs) (first + i)) (missingOf (filed s x cs l first days bs) (first + i))
     unfolding dayMissing
     day-held i j =
         let t = told-day i j in
         let y = slot (filed s x cs l first days bs) i in
         let half : (j : ℕ) → (j < count y) ↔ HalfTold s x cs l first days bs (first + i) j = λ j. iff-trans (t .half j) (half-iff (first + i) j) in
-        rw (missing-is i j)
+        rw (missing-is i j, held-at i j)
         record {
           day = iff-trans (t .day) (day-iff (first + i));
           half = half;
           start = t .start;
           value = t .value;
           flags = t .whole;
+          part = t .part;
           missing = refl;
           lack = lacks (count y) (HalfTold s x cs l first days bs (first + i)) (t .room) half;
         }
@@ -321,7 +327,8 @@ module _ (s : SetUp) (x : Store) (cs : List Call) (accepted : setUp s x .answer 
           ∙ ap (λ (m : List ℕ). desk.run D m bs .newly) fresh-is
           ∙ kept-all .newly
           ∙ ap (λ (y : List ℕ). sumBelow (λ i. count (slot y i)) (daysOf hd)) filed-is
-          ∙ ap (λ (n : ℕ). sumBelow (λ i. count (slot (filed s x cs l first days bs) i)) n) (window-is .1);
+          ∙ ap (λ (n : ℕ). sumBelow (λ i. count (slot (filed s x cs l first days bs) i)) n) (window-is .1)
+          ∙ sum-same (λ i. count (slot (filed s x cs l first days bs) i)) (λ i. count (heldOn (filed s x cs l first days bs) (first + i))) days (λ i j. ap count (sym (held-at i j)));
       order = λ m ds o same. sym (any-order id first days ok l m long (opened-well m id first days o .1) h bs ds all-honest same);
       energy = energy;
     }

@@ -75,6 +75,7 @@ module _ (s : SetUp) (x : Store) (cs : List Call) where
       pub start : isHeld y ≡ true → startOf y ≡ past .start d
       pub value : (j : ℕ) → j < count y → halfAt y j ≡ past .half d j
       pub flags : count y ≡ halvesOfDay → flagsOf y ≡ past .flags d
+      pub part : count y < halvesOfDay → flagsOf y ≡ 0
       pub missing : m .answer ≡ 0
       pub lack : (j : ℕ) → ((m .first ≤ j) × (j < m .first + m .count)) ↔ ((j < halvesOfDay) × (HalfTold d j → ⊥))
 
@@ -82,9 +83,9 @@ module _ (s : SetUp) (x : Store) (cs : List Call) where
       -- nothing is refused
       pub answers : (a : Answer) → List·Memᴰ a (answersAll opened bs) → a .number ≡ 0
       -- each day of the window
-      pub day : (i : ℕ) → i < days → DayHeld (first + i) (slot filed i) (missingOf filed (first + i))
+      pub day : (i : ℕ) → i < days → DayHeld (first + i) (heldOn filed (first + i)) (missingOf filed (first + i))
       -- what was newly held is what is held
-      pub newly : carriedAll (answersAll opened bs) ≡ sumBelow (λ i. count (slot filed i)) days
+      pub newly : carriedAll (answersAll opened bs) ≡ sumBelow (λ i. count (heldOn filed (first + i))) days
       -- the same blocks in another order, with other repeats, in another fresh ledger: the same bytes
       pub order : (m : List ℕ) (ds : List (List ℕ)) → openOf m (s .identifier) first days .answer ≡ 0 → ((b : List ℕ) → List·Memᴰ b bs ↔ List·Memᴰ b ds)
           → fileAll (openOf m (s .identifier) first days .ledger) ds ≡ filed
