@@ -1,18 +1,14 @@
 -- The recorder of a run is in range and its store has its lengths, so its answer to an event is the paper's.
 -- Assumes nothing.
-use Prim.Native.Nat.{ℕ, suc, _+_, _-_, _*_, _/_, _%_, _<_, _≤_}
-use mathlib.Core.Path.{_≡_, refl, sym, ap, _∙_, fun-ext}
+use Prim.Native.Nat.{ℕ, suc, _+_, _-_, _/_, _%_, _≤_}
+use mathlib.Core.Path.{_≡_, ap, _∙_, fun-ext}
 use mathlib.Core.Bool.{Bool, true, false}
 use native.Mathlib.Nat.{mod-mod, mod-lt}
 use native.Mathlib.Omega.{arith}
-use lib.ListN.{length, getD}
+use lib.ListN.{length}
 use borrow.Author.Tests.{eq-eqb, ne-eqb}
-use Rattle.quantity.specs.declared.RegisterUnits.{RegisterUnits}
-use Rattle.quantity.specs.declared.WattHours.{WattHours}
-use Rattle.quantity.specs.declared.CentiKilowatts.{CentiKilowatts}
 use Rattle.store.specs.Class.{rightLengths}
-use Rattle.store.specs.Store.{Store, Fits}
-use Rattle.registers.specs.Energy.{noEnergy, addedOf, unitsWith}
+use Rattle.registers.specs.Energy.{addedOf, unitsWith}
 use Rattle.recorder.specs.declared.SetUp.{SetUp}
 use Rattle.recorder.specs.declared.Event.{Event}
 use Rattle.recorder.specs.declared.Identity.{Identity}
@@ -21,12 +17,11 @@ use Rattle.recorder.specs.Recorder.{Mem}
 use Rattle.recorder.specs.Recorder as recorder
 use Rattle.recorder.specs.Range.{inRange}
 use Rattle.recorder.specs.Answer.{noClass, unitsAfter, eventAnswer, answerWith, answerOf}
-use Rattle.recorder.proofs.Ranges.{IdentityRanges, PresentRanges, EnergyRanges, DemandRanges}
 use Rattle.recorder.proofs.Ranges as ranges
 use Rattle.assurance.specs.Paper.{Paper, now, totalAt, unitsOf}
 use Rattle.assurance.specs.Written.{energyOf, due}
 use Rattle.assurance.specs.Written as written
-use Rattle.assurance.proofs.Kept.{Given, EnergyKept, DemandKept, RunningKept, ClockKept, StoreKept, KeptAt, Kept, capOf, cap-is}
+use Rattle.assurance.proofs.Kept.{Given, Kept, capOf, cap-is}
 use Rattle.assurance.proofs.Marking.{largest-le}
 
 -- the units of the running half-hour, in registers that run round and on paper

@@ -1,9 +1,8 @@
 -- The blocks of a run: each was sent after some of the events, and is the paper's of that time.
 -- Assumes nothing.
-use Prim.Native.Nat.{ℕ, _+_, _*_, _≤_}
+use Prim.Native.Nat.{ℕ, _≤_}
 use mathlib.Core.Path.{_≡_, refl, sym, ap, _∙_}
 use mathlib.Core.Logic.{⊎-elim}
-use mathlib.Core.Bool.{Bool, true, false, not, cond}
 use mathlib.Core.List.{List, [], _∷_, _++_, List·Memᴰ, List·Memᴰ·not-nil, List·Memᴰ·cases-cons}
 use native.Mathlib.Omega.{arith}
 use lib.Dec.{eqb, ltb}
@@ -12,12 +11,10 @@ use lib.Seq.{sets}
 use borrow.Author.Tests.{eqb-true, ltb-false}
 use Rattle.laws.proofs.Rows.{part-sets}
 use Rattle.laws.proofs.Split.{by-test}
-use Rattle.block.specs.declared.Answer.{Answer}
 use Rattle.block.specs.Answers.{answer}
 use Rattle.block.specs.Layout.{blockBytes}
-use Rattle.block.specs.Parse.{fields, parse}
 use Rattle.reader.proofs.Answers.{parsed-is}
-use Rattle.writer.specs.Send.{Sent, sent}
+use Rattle.writer.specs.Send.{sent}
 use Rattle.recorder.specs.declared.SetUp.{SetUp}
 use Rattle.recorder.specs.declared.Event.{Event}
 use Rattle.recorder.specs.Recorder.{Mem}

@@ -2,7 +2,7 @@
 -- Assumes nothing.
 use Prim.Native.Nat.{ℕ, suc, _+_, _-_, _*_, _/_, _%_, _<_, _≤_, max, min}
 use mathlib.Core.Path.{_≡_, refl, sym, ap, _∙_}
-use mathlib.Core.Bool.{Bool, true, false, cond}
+use mathlib.Core.Bool.{Bool}
 use native.Mathlib.Nat.{mod-mod}
 use native.Mathlib.Numerals.{add-one}
 use native.Mathlib.Decide.{decLt}
@@ -12,9 +12,6 @@ use lib.ListN.{getD}
 use borrow.Author.Tests.{eqb-true, eqb-false}
 use Rattle.laws.proofs.Ring.{ring-apart}
 use Rattle.laws.proofs.Split.{by-dec, by-test}
-use Rattle.quantity.specs.declared.RegisterUnits.{RegisterUnits}
-use Rattle.quantity.specs.declared.WattHours.{WattHours}
-use Rattle.quantity.specs.declared.CentiKilowatts.{CentiKilowatts}
 use Rattle.quantity.specs.Units.{lastFour, advance}
 use Rattle.store.specs.Store.{Store, Fits, closed, opened, turned}
 use Rattle.store.proofs.Laws.{closed-fits, turned-fits}
@@ -23,8 +20,8 @@ use Rattle.recorder.specs.declared.SetUp.{SetUp}
 use Rattle.recorder.specs.declared.Recorder.{Recorder}
 use Rattle.recorder.specs.Recorder.{Mem, readingNow}
 use Rattle.recorder.specs.Boundary.{daysAfter, ended, closeOne}
-use Rattle.assurance.specs.Paper.{Counts, Tape, totalAt, unitsOf, flagsOf, largest, peakOf}
-use Rattle.assurance.proofs.Kept.{Stored, EnergyKept, DemandKept, RunningKept, ClockKept, ValuesKept, MarksKept, StoreKept, KeptAt, capOf, firstDay, reached, cap-is}
+use Rattle.assurance.specs.Paper.{Tape, totalAt, unitsOf, flagsOf, largest}
+use Rattle.assurance.proofs.Kept.{Stored, EnergyKept, DemandKept, RunningKept, ValuesKept, MarksKept, StoreKept, KeptAt, capOf, firstDay, reached, cap-is}
 use Rattle.assurance.proofs.Rooms.{closed-values, closed-marks, closed-flags, opened-values, opened-marks, opened-flags, new-values, new-marks, new-flags}
 
 -- the difference modulo 10,000 is the units passed, if they are at most 9,999

@@ -9,20 +9,16 @@ use lib.ListN.{length, getD, set, length-set}
 use lib.Seq.{getD-set-other, getD-set-same}
 use borrow.Author.Tests.{lt-ltb, le-ltb, eq-eqb, ne-eqb}
 use Rattle.laws.proofs.Split.{by-dec}
-use Rattle.quantity.specs.declared.RegisterUnits.{RegisterUnits}
 use Rattle.quantity.specs.declared.WattHours.{WattHours}
-use Rattle.quantity.specs.declared.CentiKilowatts.{CentiKilowatts}
 use Rattle.quantity.specs.Units.{energySum}
 use Rattle.registers.specs.declared.Energy.{Energy}
-use Rattle.registers.specs.declared.Demand.{Demand}
 use Rattle.registers.specs.Energy.{noEnergy, addedOf, energyCounted}
 use Rattle.recorder.specs.declared.SetUp.{SetUp}
-use Rattle.recorder.specs.declared.Recorder.{Recorder}
 use Rattle.recorder.specs.Recorder.{Mem, with}
 use Rattle.recorder.specs.Effect as effect
-use Rattle.assurance.specs.Paper.{Counts, Marks, Demands, Tape, totalAt, unitsOf, largest}
+use Rattle.assurance.specs.Paper.{Counts, Tape, totalAt, unitsOf, largest}
 use Rattle.assurance.specs.Written.{counted, addAfter, addAt}
-use Rattle.assurance.proofs.Kept.{EnergyKept, DemandKept, RunningKept, StoreKept, KeptAt, capOf, reached}
+use Rattle.assurance.proofs.Kept.{EnergyKept, KeptAt, capOf, reached}
 use Rattle.assurance.proofs.Rooms.{same-values}
 
 pub largest-same : (f g : ℕ → ℕ) (from n : ℕ) → ((h : ℕ) → from ≤ h → h < from + n → f h ≡ g h) → largest f from n ≡ largest g from n

@@ -1,13 +1,13 @@
 -- Demand 3: whatever is drawn from a run's blocks and filed, the ledger holds exactly what was told, as it happened.
 -- Assumes nothing.
-use Prim.Native.Nat.{ℕ, zero, suc, _+_, _-_, _*_, _/_, _%_, _<_, _≤_}
+use Prim.Native.Nat.{ℕ, _+_, _-_, _*_, _<_, _≤_}
 use mathlib.Core.Path.{_≡_, refl, sym, ap, _∙_, subst, fun-ext}
 use mathlib.Core.Logic.{_↔_, ⊎-elim}
 use native.Mathlib.Decide.{decLt}
-use mathlib.Core.Bool.{Bool, true, false, not, cond, _&&_}
+use mathlib.Core.Bool.{Bool, true, not, cond}
 use mathlib.Core.List.{List, [], _∷_, _++_, List·Memᴰ, List·Memᴰ·head, List·Memᴰ·tail, List·Memᴰ·not-nil, List·Memᴰ·cases-cons}
 use native.Mathlib.Omega.{arith}
-use lib.Dec.{eqb, leb, ltb}
+use lib.Dec.{eqb}
 use lib.ListN.{length}
 use borrow.Author.Tests.{eqb-true, eq-eqb, le-leb, lt-ltb, not-false}
 use Rattle.laws.specs.Checks.{check}
@@ -19,15 +19,14 @@ use Rattle.block.specs.declared.Answer.{Answer}
 use Rattle.block.specs.Fields.{identIn}
 use Rattle.block.specs.Parse.{fields, parse}
 use Rattle.format.specs.Numbers.{binary, numAt}
-use Rattle.days.specs.Day.{History, Day, absent, isHeld, startOf, flagsOf, halfAt, count}
-use Rattle.days.specs.View.{View, Carries, Honest}
-use Rattle.days.specs.Desk.{Desk, Laws, Filed, dayIn, fresh, heldIn}
+use Rattle.days.specs.Day.{History, Day, count}
+use Rattle.days.specs.View.{Honest}
+use Rattle.days.specs.Desk.{Desk, Filed, dayIn, fresh, heldIn}
 use Rattle.days.specs.Desk as desk
 use Rattle.days.specs.Told.{AllHonest, untaken}
 use Rattle.days.specs.Told as told
 use Rattle.days.specs.Energy.{Steady, Metered, Unbroken, advances, Close}
 use Rattle.days.proofs.Fold.{reaches, cuts, fit-blocks, run-fresh}
-use Rattle.ledger.specs.declared.MissingAnswer.{MissingAnswer}
 use Rattle.ledger.specs.Layout.{lengthOf, firstOf, daysOf}
 use Rattle.ledger.specs.Rooms.{slot, pack}
 use Rattle.ledger.specs.Judged.{ledgerChecks, judged}
@@ -35,9 +34,9 @@ use Rattle.ledger.specs.Open.{headOf, openOk, openChecks, openAnswer, openOf}
 use Rattle.ledger.specs.Asked.{inWindow, asked, dayMissing, missingOf}
 use Rattle.ledger.proofs.Packed.{fit-of, first-packed, days-packed}
 use Rattle.ledger.proofs.Good.{pack-good}
-use Rattle.ledger.proofs.Opening.{Opens, opens-of, head-good, count-good}
-use Rattle.rooms.specs.View.{viewIn, viewOf}
-use Rattle.filing.specs.File.{Filing, fileOf}
+use Rattle.ledger.proofs.Opening.{opens-of, head-good, count-good}
+use Rattle.rooms.specs.View.{viewOf}
+use Rattle.filing.specs.File.{fileOf}
 use Rattle.kept.specs.Desk.{filedAs, fileAll, takenBy}
 use Rattle.kept.specs.Desk as bytes
 use Rattle.kept.proofs.Taken.{view-parsed, parsed-taken}
@@ -48,13 +47,12 @@ use Rattle.recorder.specs.declared.Event.{Event}
 use Rattle.recorder.specs.Recorder.{Mem}
 use Rattle.recorder.specs.Step.{run}
 use Rattle.recorder.specs.SetUp.{setUp, setUpAnswer, made}
-use Rattle.assurance.specs.Paper.{Counts, Tape, Paper, totalAt, unitsOf, historyOf}
+use Rattle.assurance.specs.Paper.{Counts, Paper, totalAt, unitsOf, historyOf}
 use Rattle.assurance.specs.Written.{written, blankPaper, writtenAll, paper}
-use Rattle.assurance.specs.Meaning.{countedBefore}
-use Rattle.assurance.specs.Sent.{daysDue, fieldsDue, blockDue}
+use Rattle.assurance.specs.Sent.{daysDue, fieldsDue}
 use Rattle.assurance.specs.Run.{Call, eventsOf, blocksIn}
 use Rattle.assurance.specs.Delivered.{answersAll, carriedAll, heldOn, past, counted, Drawn, opened, filed, DayTold, HalfTold, DayHeld, Holds}
-use Rattle.assurance.proofs.Kept.{Given, EnergyKept, KeptAt, Kept}
+use Rattle.assurance.proofs.Kept.{Given, Kept}
 use Rattle.assurance.proofs.Start.{given, made-kept}
 use Rattle.assurance.proofs.Run.{kept, run-kept}
 use Rattle.assurance.proofs.Past.{Past, past-all}

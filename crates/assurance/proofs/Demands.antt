@@ -1,21 +1,20 @@
 -- The three demands.
 -- Assumes nothing.
 use Prim.Native.Nat.{ℕ}
-use mathlib.Core.Path.{_≡_, refl, sym, ap, _∙_}
+use mathlib.Core.Path.{_≡_, refl, ap, _∙_}
 use mathlib.Core.List.{List}
 use lib.Dec.{eqb}
-use lib.ListN.{length, take, drop}
-use borrow.Author.Tests.{ne-eqb, eqb-true}
+use lib.ListN.{length, take}
+use borrow.Author.Tests.{ne-eqb}
 use Rattle.laws.proofs.Split.{by-test}
 use Rattle.block.specs.declared.Answer.{Answer}
 use Rattle.block.specs.declared.Header.{Header}
-use Rattle.block.specs.Layout.{blockBytes}
 use Rattle.block.specs.Parse.{fields, parse}
 use Rattle.block.proofs.Trip.{accepted-reads, parse-back}
 use Rattle.judgement.specs.Source.{lent}
 use Rattle.judgement.specs.Days.{daysFrom}
 use Rattle.judgement.specs.Given.{given}
-use Rattle.writer.specs.Send.{Sent, writeOf}
+use Rattle.writer.specs.Send.{writeOf}
 use Rattle.writer.proofs.Sent.{refused-keeps, sent-bytes, sent-reads}
 use Rattle.ledger.specs.Open.{openAnswer, openOf}
 use Rattle.kept.proofs.Stays.{refused-same}

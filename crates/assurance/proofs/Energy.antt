@@ -1,7 +1,7 @@
 -- What is counted: the paper's totals are those of the accepted Counts before each half-hour, and the eight rate registers share all of it.
 -- Assumes nothing.
 use Prim.Native.Nat.{ℕ, zero, suc, _+_, _-_, _%_, _<_, _≤_}
-use mathlib.Core.Path.{_≡_, refl, sym, ap, _∙_}
+use mathlib.Core.Path.{_≡_, refl, ap, _∙_}
 use mathlib.Core.Bool.{Bool, true, false, cond}
 use mathlib.Core.List.{List, [], _∷_}
 use native.Mathlib.Nat.{mod-add-mod}
@@ -19,8 +19,8 @@ use Rattle.recorder.specs.Step.{step}
 use Rattle.assurance.specs.Paper.{Counts, Paper, now}
 use Rattle.assurance.specs.Written.{addAfter, addAt, energyOf, writes, due, written, writtenAll}
 use Rattle.assurance.specs.Meaning.{energyIn, countedIn, countedBefore}
-use Rattle.assurance.proofs.Kept.{Given, EnergyKept, KeptAt, Kept}
-use Rattle.assurance.proofs.Past.{Past, past-all, past-step}
+use Rattle.assurance.proofs.Kept.{Given, Kept}
+use Rattle.assurance.proofs.Past.{past-all, past-step}
 use Rattle.assurance.proofs.Run.{step-kept}
 
 -- ---- sums

@@ -14,7 +14,7 @@ use Rattle.recorder.specs.declared.SetUp.{SetUp}
 use Rattle.recorder.specs.declared.Event.{Event}
 use Rattle.recorder.specs.declared.Event.the-variants.{Count, Clock, Off, On, Access, Meter, Reset, Rate, Reverse}
 use Rattle.recorder.specs.Answer.{eventAnswer, wrongPower, isOn}
-use Rattle.assurance.specs.Paper.{Flags, Marks, Demands, Tape, Paper, now, today}
+use Rattle.assurance.specs.Paper.{Marks, Tape, Paper, now, today}
 use Rattle.assurance.specs.Written.{markAt, markFrom, writes, due, written, blankTape, blankPaper, writtenAll, paper}
 use Rattle.assurance.specs.Meaning.{isReset, lastReset, Some, Outage, MeterOn, ResetOn, ReverseIn, Level2In}
 

@@ -1,8 +1,8 @@
 -- Every block of a run is honest: what it says of a day that it carries is what the history says, at the time of reading and at any later one.
 -- Assumes nothing.
-use Prim.Native.Nat.{ℕ, suc, _+_, _-_, _*_, _/_, _%_, _<_, _≤_, min}
+use Prim.Native.Nat.{ℕ, suc, _+_, _-_, _*_, _/_, _%_, _<_, _≤_}
 use mathlib.Core.Path.{_≡_, refl, sym, ap, _∙_}
-use mathlib.Core.Bool.{Bool, true, false, cond}
+use mathlib.Core.Bool.{Bool, false, cond}
 use mathlib.Core.List.{List}
 use native.Mathlib.Omega.{arith}
 use lib.Dec.{ltb}
@@ -11,23 +11,20 @@ use borrow.Author.Tests.{lt-ltb}
 use Rattle.laws.specs.Bits.{bitAt}
 use Rattle.laws.proofs.Bits.{bit-packed}
 use Rattle.laws.proofs.Table.{length-table}
-use Rattle.quantity.specs.declared.KilowattHours.{KilowattHours}
 use Rattle.quantity.specs.Units.{wattHours, kwhOf}
 use Rattle.calendar.specs.Clock.{endedOn}
 use Rattle.format.specs.Numbers.{binary, numAt}
-use Rattle.block.specs.declared.Header.{Header}
 use Rattle.block.specs.Header.{headGiven}
 use Rattle.block.specs.Fields.{headIn, identIn, secondsIn, startIn, flagsIn, halfIn, reverseIn, level2In}
-use Rattle.judgement.specs.Days.{DayRecord}
 use Rattle.judgement.specs.Given.{given}
 use Rattle.judgement.proofs.Places.{seconds-at, start-at, flags-at, half-at, reverse-at, level2-at}
-use Rattle.days.specs.Day.{Half, History}
-use Rattle.days.specs.View.{View, Carries, back, Honest}
+use Rattle.days.specs.Day.{History}
+use Rattle.days.specs.View.{back, Honest}
 use Rattle.rooms.specs.View.{halfOf, viewIn}
 use Rattle.recorder.specs.declared.SetUp.{SetUp}
 use Rattle.recorder.specs.Recorder.{Mem}
-use Rattle.assurance.specs.Paper.{Counts, Marks, Flags, Paper, now, today, totalAt, flagsOf, historyOf}
-use Rattle.assurance.specs.Sent.{storedDays, headerDue, firstMarks, dayDue, backDue, daysDue, fieldsDue}
+use Rattle.assurance.specs.Paper.{Paper, now, today, historyOf}
+use Rattle.assurance.specs.Sent.{headerDue, firstMarks, dayDue, backDue, daysDue, fieldsDue}
 use Rattle.assurance.proofs.Kept.{Given, Kept, reached}
 use Rattle.assurance.proofs.Past.{Past}
 use Rattle.assurance.proofs.Sending.{ended-reached}

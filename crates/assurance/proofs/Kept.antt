@@ -7,9 +7,6 @@ use mathlib.Core.List.{List}
 use native.Mathlib.Omega.{arith}
 use lib.ListN.{length, getD}
 use Rattle.laws.specs.Bits.{packBits}
-use Rattle.quantity.specs.declared.RegisterUnits.{RegisterUnits}
-use Rattle.quantity.specs.declared.WattHours.{WattHours}
-use Rattle.quantity.specs.declared.CentiKilowatts.{CentiKilowatts}
 use Rattle.format.specs.Identifier.{identOk}
 use Rattle.store.specs.Class.{daysOf}
 use Rattle.store.specs.Store.{Store, Fits}
@@ -20,7 +17,6 @@ use Rattle.registers.specs.declared.Running.{Running}
 use Rattle.registers.specs.Energy.{noEnergy}
 use Rattle.recorder.specs.declared.SetUp.{SetUp}
 use Rattle.recorder.specs.declared.Identity.{Identity}
-use Rattle.recorder.specs.declared.Recorder.{Recorder}
 use Rattle.recorder.specs.Recorder.{Mem}
 use Rattle.assurance.specs.Paper.{Counts, Marks, Demands, Tape, Paper, now, totalAt, unitsOf, peakOf, flagsOf}
 

@@ -1,6 +1,6 @@
 -- A life ends as its events say: the store is the last days of the history, and every register and mark has its meaning.
 -- Assumes nothing.
-use Prim.Native.Nat.{ℕ, zero, suc, _+_, _-_, _*_, _/_, _%_, _<_, _≤_}
+use Prim.Native.Nat.{ℕ, zero, suc, _+_, _-_, _*_, _/_, _%_}
 use mathlib.Core.Path.{_≡_, refl, sym, ap, _∙_}
 use mathlib.Core.Logic.{_↔_, inl, inr}
 use mathlib.Core.Bool.{Bool, true, false, cond}
@@ -8,19 +8,14 @@ use mathlib.Core.List.{List, [], _∷_}
 use native.Mathlib.Nat.{zero-add}
 use native.Mathlib.Decide.{decLt, ℕ-discrete}
 use native.Mathlib.Omega.{arith}
-use lib.Dec.{eqb, ltb}
+use lib.Dec.{ltb}
 use lib.ListN.{getD}
-use borrow.Author.Tests.{lt-ltb, le-ltb, eq-eqb, ne-eqb}
-use Rattle.laws.specs.Bits.{bitAt, packBits}
+use borrow.Author.Tests.{lt-ltb, le-ltb, ne-eqb}
 use Rattle.laws.specs.Tests.{sumBelow}
 use Rattle.laws.proofs.Bits.{bit-packed}
 use Rattle.laws.proofs.Split.{by-dec}
 use Rattle.laws.proofs.Tests.{sum-same}
-use Rattle.quantity.specs.declared.WattHours.{WattHours}
-use Rattle.quantity.specs.declared.CentiKilowatts.{CentiKilowatts}
-use Rattle.calendar.specs.Clock.{endedOn}
 use Rattle.profile.specs.Profile.{beforeAt, advanceAt}
-use Rattle.days.specs.Day.{Half, History}
 use Rattle.store.specs.Class.{daysOf}
 use Rattle.store.specs.Store.{Store}
 use Rattle.registers.specs.Energy.{noEnergy}
@@ -29,13 +24,11 @@ use Rattle.recorder.specs.declared.Event.{Event}
 use Rattle.recorder.specs.declared.Event.the-variants.{Count, Clock, Off, On, Access, Meter, Reset, Rate, Reverse}
 use Rattle.recorder.specs.Recorder.{Mem}
 use Rattle.recorder.specs.SetUp.{setUp, made}
-use Rattle.recorder.specs.Stored.{startOf, valueOf, reverseWord, level2Word, flagsWord}
-use Rattle.assurance.specs.Paper.{Counts, Tape, Paper, now, today, totalAt, unitsOf, flagsOf, largest, historyOf}
-use Rattle.assurance.specs.Written.{due, written, blankTape, blankPaper, paper}
+use Rattle.assurance.specs.Paper.{Counts, Paper, now, today, totalAt, unitsOf, largest, historyOf}
+use Rattle.assurance.specs.Written.{due, written, blankTape, blankPaper}
 use Rattle.assurance.specs.Meaning.{energyIn, countedIn, countedBefore, Some}
-use Rattle.assurance.specs.Sent.{storedDays}
-use Rattle.assurance.specs.Life.{end, told, past, ended, DayStored, Ring, energyAt, unitsIn, since, Happened, Means, Life}
-use Rattle.assurance.proofs.Kept.{Given, Stored, EnergyKept, DemandKept, ClockKept, ValuesKept, MarksKept, StoreKept, KeptAt, Kept, capOf, reached, ofDay, cap-is}
+use Rattle.assurance.specs.Life.{end, told, past, ended, DayStored, Ring, energyAt, unitsIn, since, Means, Life}
+use Rattle.assurance.proofs.Kept.{Given, Stored, Kept, capOf, reached, ofDay, cap-is}
 use Rattle.assurance.proofs.Close.{advance-of}
 use Rattle.assurance.proofs.Counting.{largest-same}
 use Rattle.assurance.proofs.Flags.{is-outage, is-meter, is-reset}

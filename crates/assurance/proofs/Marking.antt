@@ -1,20 +1,16 @@
 -- Off, Rate, Access, Reverse, Meter, Reset: what the present holds, marks of the running half-hour, flags of today.
 -- Assumes nothing.
 use Prim.Native.Nat.{ℕ, zero, suc, _+_, _-_, _*_, _/_, _%_, _<_, _≤_}
-use mathlib.Core.Path.{_≡_, refl, sym, ap, _∙_}
+use mathlib.Core.Path.{_≡_, refl, sym, _∙_}
 use mathlib.Core.Bool.{Bool, true, false, _||_}
-use mathlib.Core.List.{List}
 use native.Mathlib.Decide.{decLt}
 use native.Mathlib.Omega.{arith}
 use lib.Bits.{bitOr}
 use lib.Dec.{eqb}
-use lib.ListN.{length, getD}
 use borrow.Author.Tests.{eq-eqb, ne-eqb}
 use Rattle.laws.proofs.Ring.{ring-apart}
 use Rattle.laws.proofs.Split.{by-dec}
-use Rattle.quantity.specs.declared.RegisterUnits.{RegisterUnits}
-use Rattle.quantity.specs.declared.CentiKilowatts.{CentiKilowatts}
-use Rattle.store.specs.Store.{Store, store, Fits, flagAt}
+use Rattle.store.specs.Store.{store, flagAt}
 use Rattle.recorder.specs.declared.SetUp.{SetUp}
 use Rattle.recorder.specs.declared.Recorder.{Recorder}
 use Rattle.recorder.specs.Recorder.{Mem, with}
@@ -23,7 +19,7 @@ use Rattle.recorder.specs.Effect as effect
 use Rattle.assurance.specs.Paper.{Flags, Tape, unitsOf, flagsOf, largest, peakOf}
 use Rattle.assurance.specs.Written.{accessed, reversed, metered, resetOn, markAt}
 use Rattle.assurance.proofs.Flags.{with-meter, with-reset}
-use Rattle.assurance.proofs.Kept.{Stored, EnergyKept, DemandKept, RunningKept, ClockKept, StoreKept, KeptAt, capOf, reached, cap-is, day-is}
+use Rattle.assurance.proofs.Kept.{EnergyKept, StoreKept, KeptAt, capOf, reached, cap-is, day-is}
 use Rattle.assurance.proofs.Rooms.{same-marks, flagged-marks, flagged-other, flagged-here, flagged-long}
 
 pub or-none : (a b : Bool) → b ≡ false → (a || b) ≡ a

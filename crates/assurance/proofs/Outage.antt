@@ -1,8 +1,8 @@
 -- On: every stored day from that of Off to today gets 0x80, and no other.
 -- Assumes nothing.
 use Prim.Native.Nat.{ℕ, _+_, _-_, _*_, _/_, _%_, _<_, _≤_, max, min}
-use mathlib.Core.Path.{_≡_, refl, sym, ap, _∙_}
-use mathlib.Core.Bool.{Bool, true, false, _||_, _&&_}
+use mathlib.Core.Path.{_≡_, sym, _∙_}
+use mathlib.Core.Bool.{Bool, true, _&&_}
 use mathlib.Core.List.{List}
 use native.Mathlib.Decide.{ℕ-discrete}
 use native.Mathlib.Omega.{arith}
@@ -15,14 +15,14 @@ use Rattle.laws.proofs.Bools.{no-left, no-right}
 use Rattle.laws.proofs.Loop.{for-keeps}
 use Rattle.laws.proofs.Ring.{ring-differ}
 use Rattle.laws.proofs.Split.{by-dec}
-use Rattle.store.specs.Store.{Store, store, Fits, flagAt, flagged}
+use Rattle.store.specs.Store.{Store, store, flagAt, flagged}
 use Rattle.recorder.specs.declared.SetUp.{SetUp}
 use Rattle.recorder.specs.Recorder.{Mem}
 use Rattle.recorder.specs.Effect.{flagFrom}
-use Rattle.assurance.specs.Paper.{Flags, Tape, flagsOf}
+use Rattle.assurance.specs.Paper.{Tape, flagsOf}
 use Rattle.assurance.specs.Written.{outaged, markFrom}
 use Rattle.assurance.proofs.Flags.{with-outage}
-use Rattle.assurance.proofs.Kept.{Stored, MarksKept, ClockKept, StoreKept, KeptAt, capOf, firstDay, reached, cap-is, day-is}
+use Rattle.assurance.proofs.Kept.{Stored, MarksKept, StoreKept, KeptAt, capOf, firstDay, reached, cap-is, day-is}
 use Rattle.assurance.proofs.Rooms.{flagged-marks, flagged-other, flagged-here, flagged-long}
 use Rattle.assurance.proofs.Marking.{or-none, or-some}
 

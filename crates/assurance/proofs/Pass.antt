@@ -1,16 +1,15 @@
 -- Many boundaries: Clock(t) keeps what the paper says, and leaves the registers of energy.
 -- Assumes nothing.
-use Prim.Native.Nat.{ℕ, _+_, _/_, _≤_}
+use Prim.Native.Nat.{ℕ, _/_, _≤_}
 use mathlib.Core.Path.{_≡_, refl, _∙_}
 use native.Mathlib.Numerals.{add-one}
 use Rattle.laws.specs.Each.{forTo}
 use Rattle.laws.proofs.Loop.{for-keeps}
-use Rattle.registers.specs.declared.Energy.{Energy}
 use Rattle.recorder.specs.declared.SetUp.{SetUp}
 use Rattle.recorder.specs.Recorder.{Mem}
 use Rattle.recorder.specs.Boundary.{ended, closeOne, closeAt, advanceTo}
 use Rattle.assurance.specs.Paper.{Tape}
-use Rattle.assurance.proofs.Kept.{ClockKept, KeptAt}
+use Rattle.assurance.proofs.Kept.{KeptAt}
 use Rattle.assurance.proofs.Close.{close-on}
 
 -- the state of half-hour i on the way from x

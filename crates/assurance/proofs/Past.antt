@@ -1,8 +1,7 @@
 -- What had ended stays: a later paper agrees with an earlier one on every half-hour and day that was over.
 -- Assumes nothing.
-use Prim.Native.Nat.{ℕ, _+_, _*_, _/_, _<_, _≤_}
+use Prim.Native.Nat.{ℕ, _/_, _<_, _≤_}
 use mathlib.Core.Path.{_≡_, refl, _∙_}
-use mathlib.Core.Bool.{Bool}
 use mathlib.Core.List.{List, [], _∷_}
 use native.Mathlib.Omega.{arith}
 use lib.Dec.{eqb}
@@ -11,7 +10,7 @@ use Rattle.laws.proofs.Split.{by-test}
 use Rattle.recorder.specs.declared.SetUp.{SetUp}
 use Rattle.recorder.specs.declared.Event.{Event}
 use Rattle.recorder.specs.declared.Event.the-variants.{Count, Clock, Off, On, Access, Meter, Reset, Rate, Reverse}
-use Rattle.assurance.specs.Paper.{Counts, Marks, Flags, Paper, now, today, totalAt, flagsOf}
+use Rattle.assurance.specs.Paper.{Paper, now, today, totalAt, flagsOf}
 use Rattle.assurance.specs.Written.{addAfter, writes, due, written, writtenAll}
 use Rattle.assurance.proofs.Marking.{mark-other}
 use Rattle.assurance.proofs.Outage.{from-before}

@@ -1,42 +1,32 @@
 -- A read of a run's recorder: its answer is the one that is due by the paper, and its block is the paper's, and reads back as the paper's fields.
 -- Assumes nothing.
-use Prim.Native.Nat.{ℕ, suc, _+_, _-_, _*_, _/_, _%_, _≤_, min}
-use mathlib.Core.Path.{_≡_, refl, sym, ap, _∙_}
-use mathlib.Core.Bool.{Bool, true, false, not, cond}
+use Prim.Native.Nat.{ℕ, _%_}
+use mathlib.Core.Path.{_≡_, ap, _∙_}
+use mathlib.Core.Bool.{not, cond}
 use mathlib.Core.List.{List}
 use native.Mathlib.Omega.{arith}
-use lib.Dec.{eqb, ltb}
-use lib.ListN.{length, getD}
+use lib.Dec.{ltb}
+use lib.ListN.{length}
 use lib.Seq.{sets}
 use Rattle.laws.specs.Table.{table}
 use Rattle.laws.proofs.Split.{by-test}
 use Rattle.laws.proofs.Table.{length-table, table-same}
-use Rattle.quantity.specs.declared.WattHours.{WattHours}
-use Rattle.quantity.specs.declared.KilowattHours.{KilowattHours}
-use Rattle.quantity.specs.declared.CentiKilowatts.{CentiKilowatts}
 use Rattle.quantity.specs.Units.{wattHours, centiKilowatts, kwhOf}
-use Rattle.calendar.specs.Clock.{endedAt}
-use Rattle.block.specs.declared.Answer.{Answer}
-use Rattle.block.specs.declared.Header.{Header}
 use Rattle.block.specs.Answers.{answer}
-use Rattle.block.specs.Layout.{blockBytes, renderBlock}
+use Rattle.block.specs.Layout.{blockBytes}
 use Rattle.block.specs.Parse.{fields, parse}
-use Rattle.judgement.specs.declared.Source.{Source}
-use Rattle.judgement.specs.Source.{ring, shaped}
 use Rattle.judgement.specs.Days.{DayRecord, daysFrom}
-use Rattle.judgement.specs.Given.{given, writable}
+use Rattle.judgement.specs.Given.{given}
 use Rattle.judgement.proofs.Writable.{written-reads}
-use Rattle.writer.specs.Send.{Sent, sent, sendOf}
+use Rattle.writer.specs.Send.{sent, sendOf}
 use Rattle.writer.proofs.Sent.{send-shaped}
-use Rattle.store.specs.Store.{Store}
-use Rattle.registers.specs.Energy.{noEnergy}
 use Rattle.recorder.specs.declared.SetUp.{SetUp}
 use Rattle.recorder.specs.declared.Identity.{Identity}
 use Rattle.recorder.specs.Recorder.{Mem}
-use Rattle.readout.specs.Read.{rateSent, headerSent, sourceSent, daysSent, readAnswer, readOf}
-use Rattle.assurance.specs.Paper.{Paper, now, today, totalAt, peakOf}
-use Rattle.assurance.specs.Sent.{storedDays, headerDue, backDue, daysDue, fieldsDue, blockDue, readDue, sentDue}
-use Rattle.assurance.proofs.Kept.{Given, EnergyKept, DemandKept, KeptAt, Kept, capOf, cap-is}
+use Rattle.readout.specs.Read.{rateSent, headerSent, sourceSent, readAnswer, readOf}
+use Rattle.assurance.specs.Paper.{Paper, now}
+use Rattle.assurance.specs.Sent.{headerDue, backDue, daysDue, fieldsDue, blockDue, readDue, sentDue}
+use Rattle.assurance.proofs.Kept.{Given, Kept, cap-is}
 use Rattle.assurance.proofs.Answer.{in-range, right-lengths, some-class}
 use Rattle.assurance.proofs.Sending.{ringOf, days-are, day-due, given-same}
 use Rattle.assurance.proofs.Sound.{can-write, is-shaped}

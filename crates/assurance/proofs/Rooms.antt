@@ -1,7 +1,7 @@
 -- One day in its room: what closing a half-hour, opening a day and a flag do to it, in its own room and in another.
 -- Assumes nothing.
-use Prim.Native.Nat.{ℕ, suc, _+_, _-_, _*_, _/_, _%_, _<_, _≤_}
-use mathlib.Core.Path.{_≡_, refl, sym, ap, _∙_}
+use Prim.Native.Nat.{ℕ, suc, _+_, _*_, _/_, _%_, _<_, _≤_}
+use mathlib.Core.Path.{_≡_, sym, ap, _∙_}
 use mathlib.Core.Bool.{Bool}
 use mathlib.Core.List.{List}
 use native.Mathlib.Nat.{mod-lt}
@@ -18,7 +18,7 @@ use Rattle.marks.specs.Marks.{taken}
 use Rattle.marks.proofs.Laws.{taken-packed}
 use Rattle.store.specs.Store.{Store, Fits, pushAt, closed, opened, flagAt}
 use Rattle.recorder.specs.declared.SetUp.{SetUp}
-use Rattle.assurance.specs.Paper.{Counts, Marks, Flags, totalAt, flagsOf}
+use Rattle.assurance.specs.Paper.{Counts, Marks, totalAt}
 use Rattle.assurance.proofs.Kept.{Stored, ValuesKept, MarksKept, capOf, reached, ofDay}
 
 -- a word of another room; another word; a word, read back

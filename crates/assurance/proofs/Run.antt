@@ -1,8 +1,8 @@
 -- The run: after an accepted set-up and any list of events, refused ones among them, the recorder and its store are what the paper says.
 -- Assumes nothing.
 use Prim.Native.Nat.{ℕ, suc, _+_, _-_, _/_, _<_, _≤_}
-use mathlib.Core.Path.{_≡_, refl, sym, ap, _∙_, subst}
-use mathlib.Core.Bool.{Bool, true, false, not, _&&_}
+use mathlib.Core.Path.{_≡_, refl, ap, _∙_, subst}
+use mathlib.Core.Bool.{false, not}
 use mathlib.Core.List.{List, [], _∷_}
 use native.Mathlib.Omega.{arith}
 use lib.Dec.{eqb, leb, ltb}
@@ -21,12 +21,12 @@ use Rattle.recorder.specs.Recorder.{Mem, with}
 use Rattle.recorder.specs.Boundary.{advanceTo}
 use Rattle.recorder.specs.Effect.{after, flagToday, flagFrom}
 use Rattle.recorder.specs.Effect as effect
-use Rattle.recorder.specs.Answer.{inTime, eventChecks, eventAnswer, answerOf}
+use Rattle.recorder.specs.Answer.{inTime, eventChecks, eventAnswer}
 use Rattle.recorder.specs.Step.{step, run}
 use Rattle.recorder.specs.SetUp.{setUpAnswer, setUp, made}
 use Rattle.assurance.specs.Paper.{Tape, Paper, now, totalAt}
 use Rattle.assurance.specs.Written.{counted, accessed, energyOf, unitsWith, writes, due, written, blankPaper, writtenAll, paper}
-use Rattle.assurance.proofs.Kept.{Given, ClockKept, EnergyKept, KeptAt, Kept}
+use Rattle.assurance.proofs.Kept.{Given, KeptAt, Kept}
 use Rattle.assurance.proofs.Pass.{pass-kept, pass-energy}
 use Rattle.assurance.proofs.Counting.{count-kept}
 use Rattle.assurance.proofs.Marking.{off-kept, last-kept, rate-kept, access-kept, reverse-kept, meter-kept, reset-kept}

@@ -1,16 +1,14 @@
 -- What a read sends is the paper's: the days as they lie in the ring, with the half-hours ended, and the header.
 -- Assumes nothing.
-use Prim.Native.Nat.{ℕ, zero, suc, _+_, _-_, _*_, _/_, _%_, _<_, _≤_, min}
-use mathlib.Core.Path.{_≡_, refl, sym, ap, _∙_}
-use mathlib.Core.Bool.{Bool, true, false, cond}
-use mathlib.Core.List.{List, _++_}
+use Prim.Native.Nat.{ℕ, zero, suc, _+_, _-_, _*_, _/_, _%_, _<_, _≤_}
+use mathlib.Core.Path.{_≡_, refl, ap, _∙_}
+use mathlib.Core.Bool.{Bool, false, cond}
 use native.Mathlib.Decide.{decLt, ℕ-discrete}
 use native.Mathlib.Omega.{arith}
-use lib.Dec.{ltb, eqb}
-use lib.ListN.{length, getD}
+use lib.Dec.{ltb}
+use lib.ListN.{getD}
 use borrow.Author.Tests.{lt-ltb, le-ltb, eq-eqb, ne-eqb}
 use Rattle.laws.specs.Bits.{packBits}
-use Rattle.laws.specs.Table.{table}
 use Rattle.laws.proofs.Bits.{packed-same}
 use Rattle.laws.proofs.Split.{by-dec}
 use Rattle.laws.proofs.Table.{table-same}
@@ -18,23 +16,21 @@ use Rattle.calendar.specs.Calendar.{dateOf}
 use Rattle.calendar.specs.Clock.{endedAt, endedOn}
 use Rattle.calendar.specs.Digits.{dateDigits}
 use Rattle.calendar.proofs.Times.{ended-formula}
-use Rattle.marks.specs.Marks.{marksSent}
 use Rattle.marks.proofs.Laws.{sent-packed}
 use Rattle.profile.specs.Profile.{beforeAt, valuesFrom}
 use Rattle.block.specs.declared.Header.{Header}
-use Rattle.block.specs.Header.{headGiven}
 use Rattle.judgement.specs.declared.Source.{Source}
 use Rattle.judgement.specs.Source.{roomOf, takenOf, ring}
 use Rattle.judgement.specs.Days.{DayRecord, valueSent, wordSent, dayAt, daysFrom}
 use Rattle.judgement.specs.Given.{dayGiven, daysGiven, given}
 use Rattle.judgement.proofs.Rooms.{ring-room}
-use Rattle.days.specs.Day.{Half, History}
+use Rattle.days.specs.Day.{History}
 use Rattle.store.specs.Store.{Store}
 use Rattle.recorder.specs.declared.SetUp.{SetUp}
 use Rattle.recorder.specs.Recorder.{Mem}
-use Rattle.assurance.specs.Paper.{Counts, Marks, Paper, now, today, totalAt, flagsOf, historyOf}
+use Rattle.assurance.specs.Paper.{Paper, now, today, flagsOf, historyOf}
 use Rattle.assurance.specs.Sent.{storedDays, firstMarks, dayDue, backDue}
-use Rattle.assurance.proofs.Kept.{Given, Stored, ValuesKept, MarksKept, StoreKept, ClockKept, KeptAt, Kept, capOf, firstDay, reached, ofDay}
+use Rattle.assurance.proofs.Kept.{Given, Stored, ValuesKept, MarksKept, Kept, capOf, reached, ofDay}
 
 -- what has ended by the time is what is reached by the half-hour
 pub ended-reached : (t d : ℕ) → endedOn t d ≡ reached (t / 1800) d

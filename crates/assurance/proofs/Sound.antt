@@ -1,29 +1,26 @@
 -- A read of a run's recorder is never refused for what it would send: every field is in range, and each day leads to the next.
 -- Assumes nothing.
-use Prim.Native.Nat.{ℕ, zero, suc, _+_, _-_, _*_, _/_, _%_, _^_, _<_, _≤_, min}
-use mathlib.Core.Path.{_≡_, refl, sym, ap, _∙_}
-use mathlib.Core.Bool.{Bool, true, false, not, cond, _&&_, _||_}
-use mathlib.Core.List.{List, [], _∷_}
+use Prim.Native.Nat.{ℕ, zero, suc, _+_, _-_, _*_, _/_, _%_, _^_, _<_, _≤_}
+use mathlib.Core.Path.{_≡_, refl, sym, _∙_}
+use mathlib.Core.Bool.{Bool, true, not, _||_}
+use mathlib.Core.List.{List}
 use native.Mathlib.Nat.{mod-lt}
 use native.Mathlib.Decide.{ℕ-discrete}
 use native.Mathlib.Omega.{arith}
-use lib.Dec.{eqb, leb, ltb}
+use lib.Dec.{eqb}
 use lib.ListN.{length, getD}
 use lib.Pow.{pow-mono}
 use borrow.Author.Tests.{lt-ltb, le-leb, eq-eqb, ne-eqb}
 use Rattle.laws.specs.Bits.{packBits}
-use Rattle.laws.specs.Table.{table}
-use Rattle.laws.specs.Tests.{allTrue, allBelow}
+use Rattle.laws.specs.Tests.{allTrue}
 use Rattle.laws.proofs.Bits.{packed-lt}
 use Rattle.laws.proofs.Bools.{both}
 use Rattle.laws.proofs.Split.{by-dec}
 use Rattle.laws.proofs.Table.{length-table, table-at}
 use Rattle.laws.proofs.Tests.{allTrue-of, all-of}
-use Rattle.quantity.specs.declared.KilowattHours.{KilowattHours}
-use Rattle.quantity.specs.declared.CentiKilowatts.{CentiKilowatts}
 use Rattle.quantity.specs.Units.{wattHours, kilowattHours, kwhOf}
 use Rattle.calendar.specs.Clock.{endedAt, endedOn}
-use Rattle.profile.specs.Profile.{summedAdvance, endReading, valuesFrom}
+use Rattle.profile.specs.Profile.{endReading, valuesFrom}
 use Rattle.profile.proofs.Laws.{Readings, readingBefore, sum-agree, sum-of-readings}
 use Rattle.format.specs.Numbers.{binary, numAt, goodAt}
 use Rattle.format.specs.Fields.{digits, okValue, okValues}
@@ -31,26 +28,25 @@ use Rattle.format.specs.Identifier.{identOk}
 use Rattle.block.specs.declared.Header.{Header}
 use Rattle.format.proofs.Numbers.{good-at, num-lt}
 use Rattle.block.specs.Layout.{isIdentifier, identifier, lowFiveClear, totalFields, rateFields}
-use Rattle.block.specs.Header.{totalsOf, ratesIn, ratesOf}
+use Rattle.block.specs.Header.{totalsOf, ratesOf}
 use Rattle.block.proofs.Checking.{ident-ok}
 use Rattle.judgement.specs.declared.Source.{Source}
-use Rattle.judgement.specs.Source.{roomOf, takenOf, ring, shapeTests, shaped}
-use Rattle.judgement.specs.Days.{DayRecord, dayAt, daysFrom}
+use Rattle.judgement.specs.Source.{roomOf, takenOf, shapeTests, shaped}
+use Rattle.judgement.specs.Days.{DayRecord, daysFrom}
 use Rattle.judgement.specs.Given.{valueFits, dayTests, dayFits, filled, joined, headFits, daysTests, daysFit, writable}
 use Rattle.judgement.proofs.Head.{six-is, totals-are, rateFits, rates-all, head-is, writable-is}
 use Rattle.judgement.proofs.Places.{rate-at}
 use Rattle.judgement.proofs.Writable.{taken-filled}
-use Rattle.days.specs.Day.{Half, History}
-use Rattle.store.specs.Store.{Store, Fits}
+use Rattle.store.specs.Store.{Store}
 use Rattle.recorder.specs.declared.SetUp.{SetUp}
 use Rattle.recorder.specs.Recorder.{Mem}
 use Rattle.recorder.proofs.Answers.{days-few}
 use Rattle.assurance.specs.Paper.{Counts, Paper, now, today, totalAt, unitsOf, flagsOf, historyOf}
-use Rattle.assurance.specs.Sent.{storedDays, headerDue, dayDue, backDue}
-use Rattle.assurance.proofs.Kept.{Given, Stored, EnergyKept, DemandKept, ValuesKept, MarksKept, StoreKept, KeptAt, Kept, capOf, reached, ofDay}
+use Rattle.assurance.specs.Sent.{storedDays, headerDue, dayDue}
+use Rattle.assurance.proofs.Kept.{Given, ValuesKept, MarksKept, Kept, capOf, reached, ofDay}
 use Rattle.assurance.proofs.Flags.{flags-few, flags-low}
 use Rattle.assurance.proofs.Marking.{largest-le}
-use Rattle.assurance.proofs.Sending.{Alike, ended-reached, ringOf, stored, room-is, taken-is, day-due}
+use Rattle.assurance.proofs.Sending.{ended-reached, ringOf, stored, room-is, taken-is, day-due}
 
 -- ---- a day leads to the next
 

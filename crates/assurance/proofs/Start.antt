@@ -1,15 +1,14 @@
 -- An accepted set-up: the recorder and the cleared store are what the blank paper says.
 -- Assumes nothing.
-use Prim.Native.Nat.{ℕ, suc, _+_, _-_, _*_, _/_, _%_, _<_, _≤_}
+use Prim.Native.Nat.{ℕ, _+_, _-_, _*_, _/_, _%_, _<_, _≤_}
 use mathlib.Core.Path.{_≡_, refl, sym, ap, _∙_}
-use mathlib.Core.Bool.{true, false}
 use mathlib.Core.List.{List}
 use native.Mathlib.Nat.{mod-lt}
 use native.Mathlib.Decide.{ℕ-discrete}
 use native.Mathlib.Omega.{arith}
 use lib.Arith.{digits-lt}
 use lib.Dec.{leb}
-use lib.ListN.{length, getD, set, replicate, length-set, length-replicate, getD-replicate}
+use lib.ListN.{length, getD, replicate, length-set, length-replicate, getD-replicate}
 use lib.Seq.{getD-set-same, getD-set-other}
 use borrow.Author.Tests.{not-false, leb-true}
 use Rattle.laws.specs.Tests.{allTrue}
@@ -23,13 +22,12 @@ use Rattle.store.specs.Begun.{put, filled, begun}
 use Rattle.store.specs.Store.{Store}
 use Rattle.registers.specs.Energy.{noEnergy}
 use Rattle.recorder.specs.declared.SetUp.{SetUp}
-use Rattle.recorder.specs.Recorder.{Mem}
 use Rattle.recorder.specs.SetUp.{setUpTests, setUpAnswer, started, fresh, made}
 use Rattle.recorder.proofs.Answers.{days-few}
 use Rattle.recorder.proofs.Setting.{set-up-tests, set-up-begins}
-use Rattle.assurance.specs.Paper.{Tape, totalAt, unitsOf, flagsOf, largest}
+use Rattle.assurance.specs.Paper.{totalAt, unitsOf, flagsOf, largest}
 use Rattle.assurance.specs.Written.{blankTape, blankPaper}
-use Rattle.assurance.proofs.Kept.{Given, Stored, EnergyKept, DemandKept, RunningKept, ClockKept, ValuesKept, MarksKept, StoreKept, KeptAt, Kept, capOf, reached, ofDay}
+use Rattle.assurance.proofs.Kept.{Given, Stored, StoreKept, Kept, capOf, reached, ofDay}
 
 -- what an accepted set-up was given
 pub given : (s : SetUp) (x : Store) → setUpAnswer s x ≡ 0 → Given s

@@ -4,7 +4,7 @@ use Prim.Native.Nat.{ℕ}
 use mathlib.Core.Path.{_≡_}
 use mathlib.Core.Bool.{true}
 use mathlib.Core.List.{List}
-use lib.ListN.{length, take}
+use lib.ListN.{length}
 use Rattle.block.specs.declared.Header.{Header}
 use Rattle.block.specs.Layout.{renderBlock}
 use Rattle.block.specs.Parse.{fields, parse, acceptable}

@@ -3,13 +3,11 @@
 use Prim.Native.Nat.{ℕ, suc, _+_, _-_, _*_, _/_, _%_, _<_, _≤_}
 use mathlib.Core.Path.{_≡_}
 use mathlib.Core.Logic.{_↔_}
-use mathlib.Core.Bool.{true, false}
+use mathlib.Core.Bool.{true}
 use mathlib.Core.List.{List}
 use lib.ListN.{getD}
 use Rattle.laws.specs.Bits.{bitAt}
 use Rattle.laws.specs.Tests.{sumBelow}
-use Rattle.quantity.specs.declared.WattHours.{WattHours}
-use Rattle.quantity.specs.declared.CentiKilowatts.{CentiKilowatts}
 use Rattle.quantity.specs.Units.{unitOf, totalRound, readingRound, valueRound}
 use Rattle.calendar.specs.Clock.{secondsOfHalf, halvesOfDay, endedOn}
 use Rattle.profile.specs.Profile.{advanceAt}

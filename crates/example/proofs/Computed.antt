@@ -1,11 +1,8 @@
 -- The life computed: every number comes out by evaluating the definitions.
 -- Assumes nothing.
-use Prim.Native.Nat.{ℕ}
 use mathlib.Core.Path.{_≡_, refl}
-use mathlib.Core.List.{List, [], _∷_, map}
+use mathlib.Core.List.{[], _∷_, map}
 use lib.ListN.{length}
-use Rattle.block.specs.declared.Answer.{Answer}
-use Rattle.days.specs.View.{View}
 use Rattle.assurance.specs.Delivered.{answersAll}
 use Rattle.assurance.specs.Run.{blocksIn}
 use Rattle.block.specs.Consistent.{consistent, datedIn, filledIn, joinedIn, repeatedIn}

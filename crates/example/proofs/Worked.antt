@@ -1,6 +1,6 @@
 -- What demand 3 says of the life, beside what is computed of it.
 -- Assumes nothing.
-use Prim.Native.Nat.{ℕ, zero, suc, _+_, _-_, _*_, _/_, _%_, _<_, _≤_}
+use Prim.Native.Nat.{ℕ, zero, suc, _+_, _/_, _<_, _≤_}
 use mathlib.Core.Path.{_≡_, refl, sym, ap, _∙_, subst}
 use mathlib.Core.Logic.{_↔_, ⊎-elim}
 use mathlib.Core.Bool.{true}
@@ -11,10 +11,9 @@ use lib.ListN.{length, getD}
 use Rattle.laws.proofs.Split.{by-dec}
 use Rattle.calendar.specs.Clock.{endedOn}
 use Rattle.calendar.proofs.Times.{ended-formula}
-use Rattle.days.specs.Day.{Day, Half, History, isHeld, halfAt, count}
-use Rattle.days.specs.View.{View, Carries}
-use Rattle.days.specs.Energy.{Unbroken, advances}
-use Rattle.ledger.specs.declared.MissingAnswer.{MissingAnswer}
+use Rattle.days.specs.Day.{Half, History, isHeld, halfAt, count}
+use Rattle.days.specs.View.{Carries}
+use Rattle.days.specs.Energy.{Unbroken}
 use Rattle.ledger.specs.Asked.{missingOf}
 use Rattle.rooms.specs.View.{viewOf}
 use Rattle.registers.specs.Energy.{addedOf}

@@ -6,10 +6,8 @@ use mathlib.Core.List.{List, [], _∷_, map}
 use lib.ListN.{length, getD, replicate}
 use Rattle.quantity.specs.Units.{wattHours, unitOf}
 use Rattle.block.specs.declared.Answer.{Answer}
-use Rattle.days.specs.Day.{Day, Half, startOf, flagsOf, halfAt, count}
-use Rattle.days.specs.View.{View}
+use Rattle.days.specs.Day.{startOf, flagsOf, halfAt, count}
 use Rattle.days.specs.Energy.{advances}
-use Rattle.ledger.specs.declared.MissingAnswer.{MissingAnswer}
 use Rattle.ledger.specs.Asked.{missingOf}
 use Rattle.rooms.specs.View.{viewOf}
 use Rattle.store.specs.declared.Class.the-variants.{A}
