@@ -328,7 +328,7 @@ module _ (s : SetUp) (x : Store) (cs : List Call) (accepted : setUp s x .answer 
           ∙ ap (λ (n : ℕ). sumBelow (λ i. count (slot (filed s x cs l first days bs) i)) n) (window-is .1)
           ∙ sum-same (λ i. count (slot (filed s x cs l first days bs) i)) (λ i. count (heldOn (filed s x cs l first days bs) (first + i))) days (λ i j. ap count (sym (held-at i j)));
       order = λ m ds o same. sym (any-order id first days ok l m long (opened-well m id first days o .1) h bs ds all-honest same);
-      energy = energy;
+      energy = λ q n u. let e = energy q n u in omega (arith, e .0, e .1);
     }
       where
         fresh-is : opened s x cs l first days bs ≡ fresh D

@@ -183,7 +183,7 @@ module _ (s : SetUp) (x : Store) (es : List Event) (accepted : setUp s x .answer
     current = current-told;
     start = λ d. let e : 48 * d + 0 ≡ 48 * d = omega arith in rw e (start-told d ∙ ap (λ (n : ℕ). n / 10 % 100000000) (total-is (48 * d)));
     value = λ d j. value-told d j ∙ ap (λ (n : ℕ). n / 10 % 10000) (total-is (48 * d + suc j));
-    few = λ q. rw (← units-are q) (k .at .energy .slow q);
+    few = λ q. omega (arith, units-are q, k .at .energy .slow q);
     advance = λ d j. advance-told d j ∙ units-are (48 * d + j);
     reverse = λ d j. reverse-exactly s es (48 * d + j);
     level2 = λ d j. level2-exactly s es (48 * d + j);
