@@ -1,0 +1,204 @@
+-- A life ends as its events say: the store is the last days of the history, and every register and mark has its meaning.
+-- Assumes nothing.
+use Prim.Native.Nat.{ℕ, zero, suc, _+_, _-_, _*_, _/_, _%_, _<_, _≤_}
+use mathlib.Core.Path.{_≡_, refl, sym, ap, _∙_}
+use mathlib.Core.Logic.{_↔_, inl, inr}
+use mathlib.Core.Bool.{Bool, true, false, cond}
+use mathlib.Core.List.{List, [], _∷_}
+use native.Mathlib.Nat.{zero-add}
+use native.Mathlib.Decide.{decLt, ℕ-discrete}
+use native.Mathlib.Omega.{arith}
+use lib.Dec.{eqb, ltb}
+use lib.ListN.{getD}
+use borrow.Author.Tests.{lt-ltb, le-ltb, eq-eqb, ne-eqb}
+use Rattle.laws.specs.Bits.{bitAt, packBits}
+use Rattle.laws.specs.Tests.{sumBelow}
+use Rattle.laws.proofs.Bits.{bit-packed}
+use Rattle.laws.proofs.Split.{by-dec}
+use Rattle.laws.proofs.Tests.{sum-same}
+use Rattle.quantity.specs.declared.WattHours.{WattHours}
+use Rattle.quantity.specs.declared.CentiKilowatts.{CentiKilowatts}
+use Rattle.calendar.specs.Clock.{endedOn}
+use Rattle.profile.specs.Profile.{beforeAt, advanceAt}
+use Rattle.days.specs.Day.{Half, History}
+use Rattle.store.specs.Class.{daysOf}
+use Rattle.store.specs.Store.{Store}
+use Rattle.registers.specs.Energy.{noEnergy}
+use Rattle.recorder.specs.declared.SetUp.{SetUp}
+use Rattle.recorder.specs.declared.Event.{Event}
+use Rattle.recorder.specs.declared.Event.the-variants.{Count, Clock, Off, On, Access, Meter, Reset, Rate, Reverse}
+use Rattle.recorder.specs.Recorder.{Mem}
+use Rattle.recorder.specs.SetUp.{setUp, made}
+use Rattle.recorder.specs.Stored.{startOf, valueOf, reverseWord, level2Word, flagsWord}
+use Rattle.assurance.specs.Paper.{Counts, Tape, Paper, now, today, totalAt, unitsOf, flagsOf, largest, historyOf}
+use Rattle.assurance.specs.Written.{due, written, blankTape, blankPaper, paper}
+use Rattle.assurance.specs.Meaning.{energyIn, countedIn, countedBefore, Some}
+use Rattle.assurance.specs.Sent.{storedDays}
+use Rattle.assurance.specs.Life.{end, told, past, ended, DayStored, Ring, energyAt, unitsIn, since, Happened, Means, Life}
+use Rattle.assurance.proofs.Kept.{Given, Stored, EnergyKept, DemandKept, ClockKept, ValuesKept, MarksKept, StoreKept, KeptAt, Kept, capOf, reached, ofDay, cap-is}
+use Rattle.assurance.proofs.Close.{advance-of}
+use Rattle.assurance.proofs.Counting.{largest-same}
+use Rattle.assurance.proofs.Flags.{is-outage, is-meter, is-reset}
+use Rattle.assurance.proofs.Start.{given, made-kept}
+use Rattle.assurance.proofs.Answer.{in-range, answer-due}
+use Rattle.assurance.proofs.Run.{kept}
+use Rattle.assurance.proofs.Energy.{sum-round, before-is, rates-are, all-before}
+use Rattle.assurance.proofs.Happening.{outage-exactly, meter-exactly, reset-exactly, reverse-exactly, level2-exactly, since-is}
+use Rattle.assurance.proofs.Sending.{ended-reached, days-are, stored}
+
+pub iff-trans : {A B C : Type 0} → A ↔ B → B ↔ C → A ↔ C
+iff-trans f g = (λ a. g .0 (f .0 a), λ c. f .1 (g .1 c))
+
+-- a refused event counts nothing
+refused-none : (s : SetUp) (p : Paper) (e : Event) → (due s p e ≡ 0 → ⊥) → energyIn s p e ≡ 0
+refused-none s p (Count c) n = rw (ne-eqb (due s p (Count c)) 0 n)
+refused-none s p (Clock t) n = refl
+refused-none s p Off n = refl
+refused-none s p (On t) n = refl
+refused-none s p Access n = refl
+refused-none s p (Meter c) n = refl
+refused-none s p Reset n = refl
+refused-none s p (Rate k) n = refl
+refused-none s p Reverse n = refl
+
+-- nothing is counted in a half-hour in which no event was accepted
+none-counted : (s : SetUp) (q : ℕ) (es : List Event) (p : Paper) → (Some s (λ p e. q ≡ now p) p es → ⊥) → countedBefore s (suc q) p es ≡ countedBefore s q p es
+unfolding countedBefore
+none-counted s q [] p n = refl
+none-counted s q (e ∷ es) p n =
+    rw (none-counted s q es (written s p e) (λ h. n (inr h)))
+    (ap (λ (w : ℕ). w + countedBefore s q (written s p e) es)
+    (by-dec (ℕ-discrete q (now p))
+    (λ z. rw (refused-none s p e (λ d. n (inl (d, z)))) (none (ltb (now p) (suc q)) (ltb (now p) q)))
+    (λ z. by-dec (decLt (now p) q)
+    (λ l. rw (lt-ltb (now p) q l, lt-ltb (now p) (suc q) (omega arith)))
+    (λ l. rw (le-ltb (now p) q (omega arith), le-ltb (now p) (suc q) (omega arith))))))
+  where
+    none : (a b : Bool) → _≡_ {A = ℕ} (cond a 0 0) (cond b 0 0)
+    none true true = refl
+    none true false = refl
+    none false true = refl
+    none false false = refl
+
+module _ (s : SetUp) (x : Store) (es : List Event) (accepted : setUp s x .answer ≡ 0) where
+  abbrev y : Mem
+  y = end s x es
+
+  abbrev p : Paper
+  p = told s x es
+
+  abbrev c : Counts
+  c = p .tape .counts
+
+  z : Given s
+  unfolding setUp
+  z = given s x accepted
+
+  k : Kept s p y
+  k = kept s x es accepted
+
+  -- ---- the ring
+
+  module _ (d : ℕ) (i : Stored s (now p) d) where
+    has-cap : daysOf (y .recorder .identity .class) ≡ capOf s
+    has-cap = cap-is s (p .tape) (now p) y (k .at)
+
+    e : ended s x es d ≡ reached (now p) d
+    e = ended-reached (p .time) d
+
+    day-stored : DayStored s x es d
+    unfolding historyOf ofDay
+    day-stored =
+        let g = k .at .store in
+        record {
+          start = rw has-cap (g .values d i .start);
+          value = λ j l. rw has-cap (g .values d i .value j (rw e at l));
+          reverse = λ j l. rw (has-cap, e, g .marks d i .reverse) (bit-packed (reached (now p) d) (ofDay (p .tape .marks .reverse) d) j (rw e at l));
+          level2 = λ j l. rw (has-cap, e, g .marks d i .level2) (bit-packed (reached (now p) d) (ofDay (p .tape .marks .level2) d) j (rw e at l));
+          flags = rw has-cap (g .flags d i);
+        }
+
+  pub ring : Ring s x es
+  ring = record { days = days-are s z p y k; day = λ i l. day-stored (today p - i) (stored s z p y k i l) }
+
+  -- ---- what it means
+
+  -- the paper's totals are the start and what was counted before
+  pub total-is : (q : ℕ) → totalAt s c q ≡ energyAt s x es q
+  unfolding totalAt blankTape
+  total-is q = ap (λ (n : ℕ). s .total .0 + n) (before-is s z q es (blankPaper s) (made s) (made-kept s z) ∙ zero-add (countedBefore s q (blankPaper s) es))
+
+  units-are : (q : ℕ) → unitsOf s c q ≡ unitsIn s x es q
+  unfolding unitsOf
+  units-are q = rw (total-is (suc q), total-is q)
+
+  total-told : y .recorder .energy .total .0 ≡ (s .total .0 + countedIn s (blankPaper s) es) % 1000000000
+  total-told =
+      k .at .energy .total
+      ∙ ap (λ (n : ℕ). n % 1000000000)
+      (total-is (suc (now p)) ∙ ap (λ (n : ℕ). s .total .0 + n) (all-before s (suc (now p)) (blankPaper s) es (omega arith)))
+
+  rates-told : (s .total .0 + sumBelow (λ i. getD (y .recorder .energy .rates) i noEnergy .0) 8) % 1000000000 ≡ y .recorder .energy .total .0
+  unfolding blankTape sumBelow
+  rates-told =
+      ap (λ (n : ℕ). (s .total .0 + n) % 1000000000)
+      (sum-same (λ i. getD (y .recorder .energy .rates) i noEnergy .0) (λ i. c .rate i % 1000000000) 8 (k .at .energy .rates))
+      ∙ sum-round (c .rate) 8 (s .total .0)
+      ∙ ap (λ (n : ℕ). (s .total .0 + n) % 1000000000) (rates-are s z es (blankPaper s) (made s) (made-kept s z) ∙ zero-add (countedIn s (blankPaper s) es))
+      ∙ sym total-told
+
+  current-told : y .recorder .demand .current .0 ≡ 2 * largest (unitsIn s x es) (since s x es) (now p - since s x es)
+  unfolding blankTape
+  current-told =
+      k .at .demand .current
+      ∙ ap (λ (q : ℕ). 2 * largest (unitsOf s c) q (now p - q)) (since-is s es (blankPaper s))
+      ∙ ap (λ (n : ℕ). 2 * n)
+      (largest-same (unitsOf s c) (unitsIn s x es) (since s x es) (now p - since s x es) (λ q _ _. units-are q))
+
+  module _ (d : ℕ) where
+    start-told : past s x es .start d ≡ totalAt s c (48 * d) / 10 % 100000000
+    unfolding historyOf
+    start-told = refl
+
+    value-told : (j : ℕ) → past s x es .half d j .value ≡ totalAt s c (48 * d + suc j) / 10 % 10000
+    unfolding historyOf
+    value-told j = refl
+
+    before-told : (j : ℕ) → beforeAt (past s x es .start d) (λ i. past s x es .half d i .value) j ≡ totalAt s c (48 * d + j) / 10 % 10000
+    unfolding beforeAt
+    before-told zero =
+        let e : 48 * d + 0 ≡ 48 * d = omega arith in
+        rw e (ap (λ (n : ℕ). n % 10000) start-told ∙ low (totalAt s c (48 * d) / 10))
+      where
+        low : (n : ℕ) → n % 100000000 % 10000 ≡ n % 10000
+        low n = omega arith
+    before-told (suc j) = value-told j
+
+    advance-told : (j : ℕ) → advanceAt (past s x es .start d) (λ i. past s x es .half d i .value) j ≡ unitsOf s c (48 * d + j)
+    unfolding advanceAt unitsOf
+    advance-told j =
+        let next : 48 * d + suc j ≡ suc (48 * d + j) = omega arith in
+        advance-of _ _ (totalAt s c (48 * d + suc j) / 10) (totalAt s c (48 * d + j) / 10) (value-told j) (before-told j)
+        (rw next (omega (arith, k .at .energy .up (48 * d + j)))) (rw next (k .at .energy .slow (48 * d + j)))
+        ∙ rw next
+
+  pub means : Means s x es
+  unfolding historyOf
+  means = record {
+    total = total-told;
+    rates = rates-told;
+    current = current-told;
+    start = λ d. let e : 48 * d + 0 ≡ 48 * d = omega arith in rw e (start-told d ∙ ap (λ (n : ℕ). n / 10 % 100000000) (total-is (48 * d)));
+    value = λ d j. value-told d j ∙ ap (λ (n : ℕ). n / 10 % 10000) (total-is (48 * d + suc j));
+    few = λ q. rw (← units-are q) (k .at .energy .slow q);
+    advance = λ d j. advance-told d j ∙ units-are (48 * d + j);
+    reverse = λ d j. reverse-exactly s es (48 * d + j);
+    level2 = λ d j. level2-exactly s es (48 * d + j);
+    passed = λ q n. rw (none-counted s q es (blankPaper s) n) (omega arith);
+    outage = λ d. iff-trans (is-outage (p .tape .flags) d) (outage-exactly s es d);
+    meter = λ d. iff-trans (is-meter (p .tape .flags) d) (meter-exactly s es d);
+    reset = λ d. iff-trans (is-reset (p .tape .flags) d) (reset-exactly s es d);
+  }
+
+  pub life : Life s x es
+  life = record { range = in-range s z p y k; answers = answer-due s z p y k; ring = ring; means = means }

@@ -1,0 +1,93 @@
+-- A run's blocks at the desk: any list drawn from them, filed one after another in a fresh ledger of that meter, and what the ledger then holds
+-- (document 01, "The ledger").
+use Prim.Native.Nat.{ℕ, _<_, _≤_, _+_, _-_, _*_}
+use mathlib.Core.Path.{_≡_}
+use mathlib.Core.Logic.{_↔_}
+use mathlib.Core.Bool.{true, cond}
+use mathlib.Core.List.{List, [], _∷_, List·Memᴰ}
+use Rattle.laws.specs.Tests.{sumBelow}
+use Rattle.quantity.specs.Units.{unitOf}
+use Rattle.calendar.specs.Clock.{halvesOfDay, endedOn}
+use Rattle.block.specs.declared.Answer.{Answer}
+use Rattle.days.specs.Day.{History, Day, absent, isHeld, startOf, flagsOf, halfAt, count}
+use Rattle.days.specs.View.{Carries}
+use Rattle.days.specs.Energy.{advances, Unbroken}
+use Rattle.ledger.specs.declared.MissingAnswer.{MissingAnswer}
+use Rattle.ledger.specs.Layout.{firstOf}
+use Rattle.ledger.specs.Rooms.{slot}
+use Rattle.ledger.specs.Open.{openOf}
+use Rattle.ledger.specs.Asked.{inWindow, missingOf}
+use Rattle.rooms.specs.View.{viewOf}
+use Rattle.filing.specs.File.{fileOf}
+use Rattle.kept.specs.Desk.{fileAll}
+use Rattle.store.specs.Store.{Store}
+use Rattle.recorder.specs.declared.SetUp.{SetUp}
+use Rattle.recorder.specs.SetUp.{setUp}
+use Rattle.assurance.specs.Written.{blankPaper}
+use Rattle.assurance.specs.Meaning.{countedBefore}
+use Rattle.assurance.specs.Run.{Call, eventsOf, blocksIn}
+use Rattle.assurance.specs.Life as life
+
+-- the answers of filing blocks one after another, and what they carry together
+unfoldable pub answersAll : List ℕ → List (List ℕ) → List Answer
+answersAll l [] = []
+answersAll l (b ∷ bs) = fileOf l b .answer ∷ answersAll (fileOf l b .ledger) bs
+
+abbrev pub carriedAll : List Answer → ℕ
+carriedAll [] = 0
+carriedAll (a ∷ rest) = a .carried + carriedAll rest
+
+-- day d as a ledger holds it: absent outside its window
+unfoldable pub heldOn : List ℕ → ℕ → Day
+heldOn l d = cond (inWindow l d) (slot l (d - firstOf l)) absent
+
+module _ (s : SetUp) (x : Store) (cs : List Call) where
+  abbrev pub past : History
+  past = life.past s x (eventsOf cs)
+
+  -- watt-hours of the Counts accepted in the n half-hours from q on
+  abbrev pub counted : ℕ → ℕ → ℕ
+  counted q n = countedBefore s (q + n) (blankPaper s) (eventsOf cs) - countedBefore s q (blankPaper s) (eventsOf cs)
+
+  -- blocks of the run's reads: any left out, any repeated, in any order
+  abbrev pub Drawn : List (List ℕ) → Type 0
+  Drawn bs = (b : List ℕ) → List·Memᴰ b bs → List·Memᴰ b (blocksIn (setUp s x .after) cs)
+
+  module _ (l : List ℕ) (first days : ℕ) (bs : List (List ℕ)) where
+    -- the fresh ledger, and the ledger after all of them
+    abbrev pub opened : List ℕ
+    opened = openOf l (s .identifier) first days .ledger
+
+    abbrev pub filed : List ℕ
+    filed = fileAll opened bs
+
+    -- some delivered block carries day d; and was read after its half-hour j had ended
+    abbrev pub DayTold : ℕ → Type 0
+    DayTold d = (b : List ℕ) × List·Memᴰ b bs × Carries (viewOf b) d
+
+    abbrev pub HalfTold : ℕ → ℕ → Type 0
+    HalfTold d j = (b : List ℕ) × List·Memᴰ b bs × Carries (viewOf b) d × (j < endedOn (viewOf b .time) d)
+
+    -- y is what the ledger has of day d, and m what it says is missing
+    pub record DayHeld (d : ℕ) (y : Day) (m : MissingAnswer) : Type 0 where
+      pub day : (isHeld y ≡ true) ↔ DayTold d
+      pub half : (j : ℕ) → (j < count y) ↔ HalfTold d j
+      pub start : isHeld y ≡ true → startOf y ≡ past .start d
+      pub value : (j : ℕ) → j < count y → halfAt y j ≡ past .half d j
+      pub flags : count y ≡ halvesOfDay → flagsOf y ≡ past .flags d
+      pub missing : m .answer ≡ 0
+      pub lack : (j : ℕ) → ((m .first ≤ j) × (j < m .first + m .count)) ↔ ((j < halvesOfDay) × (HalfTold d j → ⊥))
+
+    pub record Holds : Type 0 where
+      -- nothing is refused
+      pub answers : (a : Answer) → List·Memᴰ a (answersAll opened bs) → a .number ≡ 0
+      -- each day of the window
+      pub day : (i : ℕ) → i < days → DayHeld (first + i) (slot filed i) (missingOf filed (first + i))
+      -- what was newly held is what is held
+      pub newly : carriedAll (answersAll opened bs) ≡ sumBelow (λ i. count (slot filed i)) days
+      -- the same blocks in another order, with other repeats, in another fresh ledger: the same bytes
+      pub order : (m : List ℕ) (ds : List (List ℕ)) → openOf m (s .identifier) first days .answer ≡ 0 → ((b : List ℕ) → List·Memᴰ b bs ↔ List·Memᴰ b ds)
+          → fileAll (openOf m (s .identifier) first days .ledger) ds ≡ filed
+      -- a stretch of half-hours all held: ten times its advances and the watt-hours counted in it differ by at most 9
+      pub energy : (q n : ℕ) → Unbroken (heldOn filed) q n
+          → (unitOf * advances (heldOn filed) q n ≤ counted q n + (unitOf - 1)) × (counted q n ≤ unitOf * advances (heldOn filed) q n + (unitOf - 1))

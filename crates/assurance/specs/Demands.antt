@@ -1,0 +1,68 @@
+-- The three demands, each as the statement that is proved of it (proofs/Demands.antt): over `setUp`, `step`, `readOf`, `writeOf`, `openOf`, `fileOf` and
+-- `parse`, the definitions that the contracts of the code cite, so that it holds of the code.
+use Prim.Native.Nat.{ℕ}
+use mathlib.Core.Path.{_≡_}
+use mathlib.Core.Bool.{true}
+use mathlib.Core.List.{List}
+use lib.ListN.{length, take}
+use Rattle.block.specs.declared.Header.{Header}
+use Rattle.block.specs.Layout.{renderBlock}
+use Rattle.block.specs.Parse.{fields, parse, acceptable}
+use Rattle.judgement.specs.Source.{lent}
+use Rattle.judgement.specs.Days.{daysFrom}
+use Rattle.judgement.specs.Given.{given}
+use Rattle.writer.specs.Send.{writeOf}
+use Rattle.ledger.specs.Open.{openOf}
+use Rattle.filing.specs.File.{fileOf}
+use Rattle.store.specs.Store.{Store}
+use Rattle.recorder.specs.declared.Event.{Event}
+use Rattle.recorder.specs.declared.SetUp.{SetUp}
+use Rattle.recorder.specs.Recorder.{Mem}
+use Rattle.recorder.specs.Step.{step, run}
+use Rattle.recorder.specs.SetUp.{blank, setUp}
+use Rattle.readout.specs.Read.{readOf}
+use Rattle.assurance.specs.Written.{paper}
+use Rattle.assurance.specs.Sent.{daysDue, fieldsDue, blockDue, sentDue}
+use Rattle.assurance.specs.Run.{Call, runAll, eventsOf, blockOf}
+use Rattle.assurance.specs.Life.{Life}
+use Rattle.assurance.specs.Delivered.{Drawn, Holds}
+
+abbrev pub Refused : ℕ → Type 0
+Refused number = number ≡ 0 → ⊥
+
+-- Demand 1: whatever is given, a refusal changes nothing. (That every call answers, and by document 01's table, is its contract, which asks nothing.)
+pub record Demand1 : Type 0 where
+  pub steps : (x : Mem) (e : Event) → Refused (step x e .answer) → step x e .after ≡ x
+  pub reads : (asked : ℕ) (x : Mem) (out : List ℕ) → Refused (readOf asked x out .answer .number) → readOf asked x out .out ≡ out
+  pub writes : (h : Header) (n : ℕ) (v s m out : List ℕ) → Refused (writeOf h n v s m out .answer .number) → writeOf h n v s m out .out ≡ out
+  pub opens : (l id : List ℕ) (first days : ℕ) → Refused (openOf l id first days .answer) → openOf l id first days .ledger ≡ l
+  pub files : (l b : List ℕ) → Refused (fileOf l b .answer .number) → fileOf l b .ledger ≡ l
+  -- a refused set-up leaves the store, and its blank recorder is refused by every call with 5
+  pub set-up : (s : SetUp) (x : Store) → Refused (setUp s x .answer) → setUp s x .after ≡ record { recorder = blank; store = x }
+  pub blank-step : (x : Store) (e : Event) → step (record { recorder = blank; store = x }) e .answer ≡ 5
+  pub blank-read : (asked : ℕ) (x : Store) (out : List ℕ) → readOf asked (record { recorder = blank; store = x }) out .answer .number ≡ 5
+
+-- Demand 2: values, event by event and at every point of every life, and the block both ways.
+pub record Demand2 : Type 0 where
+  -- the answers, the ring, the registers, marks and flags after any events
+  pub life : (s : SetUp) (x : Store) (es : List Event) → setUp s x .answer ≡ 0 → Life s x es
+  -- reads among the events change nothing; each is answered as the paper says, and sends the paper's block, which reads back as the history's fields
+  pub calls : (x : Mem) (cs : List Call) → runAll x cs ≡ run x (eventsOf cs)
+  pub read : (s : SetUp) (x : Store) (cs : List Call) (asked : ℕ) (out : List ℕ) → setUp s x .answer ≡ 0
+      → readOf asked (runAll (setUp s x .after) cs) out ≡ sentDue s (paper s (eventsOf cs)) asked out
+  pub parses : (s : SetUp) (x : Store) (es : List Event) (asked : ℕ) → setUp s x .answer ≡ 0
+      → parse (blockDue s (paper s es) asked) ≡ fields (daysDue s (paper s es) asked) (fieldsDue s (paper s es) asked)
+  -- a block written from given fields reads back as these
+  pub writes : (h : Header) (n : ℕ) (v s m out : List ℕ) → length (h .rates) ≡ 8 → writeOf h n v s m out .answer .number ≡ 0
+      → parse (blockOf (writeOf h n v s m out)) ≡ fields n (given h n (daysFrom (lent n) v s m))
+  -- so does any block of acceptable fields; and one that is read, written again from its fields, is the same bytes
+  pub back : (n : ℕ) (vs : List ℕ) → acceptable n vs ≡ true → parse (renderBlock n vs) ≡ fields n vs
+  pub again : (b : List ℕ) (n : ℕ) (vs : List ℕ) → parse b ≡ fields n vs → renderBlock n vs ≡ b
+
+-- Demand 3: for every accepted set-up, every run of events and reads, every fresh ledger of that meter, and every list of blocks of the run's reads, any left
+-- out, any repeated, in any order: filed one after another, they are held exactly as told, as it happened; the rest is missing; and so on (Delivered, `Holds`).
+abbrev pub Demand3 : Type 0
+Demand3 =
+    (s : SetUp) (x : Store) (cs : List Call) (l : List ℕ) (first days : ℕ) (bs : List (List ℕ))
+    → setUp s x .answer ≡ 0 → openOf l (s .identifier) first days .answer ≡ 0 → Drawn s x cs bs
+    → Holds s x cs l first days bs

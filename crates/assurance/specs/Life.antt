@@ -1,0 +1,106 @@
+-- A life: an accepted set-up, whatever store was lent, and any list of events, refused ones among them. Where it ends, the store is the last days of its
+-- history, and every register and every mark means what the events say (document 01, "Quantities", "Events").
+use Prim.Native.Nat.{ℕ, suc, _+_, _-_, _*_, _/_, _%_, _<_, _≤_}
+use mathlib.Core.Path.{_≡_}
+use mathlib.Core.Logic.{_↔_}
+use mathlib.Core.Bool.{true, false}
+use mathlib.Core.List.{List}
+use lib.ListN.{getD}
+use Rattle.laws.specs.Bits.{bitAt}
+use Rattle.laws.specs.Tests.{sumBelow}
+use Rattle.quantity.specs.declared.WattHours.{WattHours}
+use Rattle.quantity.specs.declared.CentiKilowatts.{CentiKilowatts}
+use Rattle.quantity.specs.Units.{unitOf, totalRound, readingRound, valueRound}
+use Rattle.calendar.specs.Clock.{secondsOfHalf, halvesOfDay, endedOn}
+use Rattle.profile.specs.Profile.{advanceAt}
+use Rattle.days.specs.Day.{History}
+use Rattle.store.specs.Store.{Store}
+use Rattle.registers.specs.Energy.{noEnergy, rateCount}
+use Rattle.recorder.specs.declared.SetUp.{SetUp}
+use Rattle.recorder.specs.declared.Event.{Event}
+use Rattle.recorder.specs.Recorder.{Mem}
+use Rattle.recorder.specs.Range.{inRange}
+use Rattle.recorder.specs.Effect.{powerLost, meterChanged, demandCleared}
+use Rattle.recorder.specs.Answer.{mostUnits, answerOf}
+use Rattle.recorder.specs.Step.{run}
+use Rattle.recorder.specs.SetUp.{setUp}
+use Rattle.recorder.specs.Stored.{startOf, valueOf, reverseWord, level2Word, flagsWord}
+use Rattle.assurance.specs.Paper.{Paper, now, today, largest, historyOf}
+use Rattle.assurance.specs.Written.{due, blankPaper, paper}
+use Rattle.assurance.specs.Meaning.{countedIn, countedBefore, lastReset, Some, Outage, MeterOn, ResetOn, ReverseIn, Level2In}
+use Rattle.assurance.specs.Sent.{storedDays}
+
+module _ (s : SetUp) (x : Store) (es : List Event) where
+  -- the recorder and its store where the life ends, the paper, and the history on it
+  abbrev pub end : Mem
+  end = run (setUp s x .after) es
+
+  abbrev pub told : Paper
+  told = paper s es
+
+  abbrev pub past : History
+  past = historyOf s (told .tape)
+
+  -- ---- the ring is the paper: the days stored, and what the store has of day d
+
+  abbrev pub ended : ℕ → ℕ
+  ended d = endedOn (told .time) d
+
+  pub record DayStored (d : ℕ) : Type 0 where
+    pub start : startOf end d ≡ past .start d
+    pub value : (j : ℕ) → j < ended d → valueOf end d j ≡ past .half d j .value
+    pub reverse : (j : ℕ) → j < ended d → bitAt (ended d) (reverseWord end d) j ≡ past .half d j .reverse
+    pub level2 : (j : ℕ) → j < ended d → bitAt (ended d) (level2Word end d) j ≡ past .half d j .level2
+    pub flags : flagsWord end d ≡ past .flags d
+
+  pub record Ring : Type 0 where
+    pub days : end .recorder .clock .days ≡ storedDays s told
+    pub day : (i : ℕ) → i < storedDays s told → DayStored (today told - i)
+
+  -- ---- what it means: the total, not reduced, as half-hour q began, and the units of half-hour q
+
+  abbrev pub energyAt : ℕ → ℕ
+  energyAt q = s .total .0 + countedBefore s q (blankPaper s) es
+
+  abbrev pub unitsIn : ℕ → ℕ
+  unitsIn q = energyAt (suc q) / unitOf - energyAt q / unitOf
+
+  -- the half-hour of set-up or of the last Reset; and: such an event was accepted
+  abbrev pub since : ℕ
+  since = lastReset s (s .time / secondsOfHalf) (blankPaper s) es
+
+  abbrev pub Happened : (Paper → Event → Type 0) → Type 0
+  Happened H = Some s H (blankPaper s) es
+
+  abbrev pub halfOf : ℕ → ℕ → ℕ
+  halfOf d j = halvesOfDay * d + j
+
+  -- a bit of a day's flags
+  abbrev pub Flagged : ℕ → ℕ → Type 0
+  Flagged flag d = past .flags d / flag % 2 ≡ 1
+
+  pub record Means : Type 0 where
+    -- the registers
+    pub total : end .recorder .energy .total .0 ≡ (s .total .0 + countedIn s (blankPaper s) es) % totalRound
+    pub rates : (s .total .0 + sumBelow (λ i. getD (end .recorder .energy .rates) i noEnergy .0) rateCount) % totalRound ≡ end .recorder .energy .total .0
+    pub current : end .recorder .demand .current .0 ≡ 2 * largest unitsIn since (now told - since)
+    -- the half-hours
+    pub start : (d : ℕ) → past .start d ≡ energyAt (halfOf d 0) / unitOf % readingRound
+    pub value : (d j : ℕ) → past .half d j .value ≡ energyAt (halfOf d (suc j)) / unitOf % valueRound
+    pub few : (q : ℕ) → unitsIn q ≤ mostUnits
+    pub advance : (d j : ℕ) → advanceAt (past .start d) (λ i. past .half d i .value) j ≡ unitsIn (halfOf d j)
+    pub reverse : (d j : ℕ) → (past .half d j .reverse ≡ true) ↔ Happened (ReverseIn (halfOf d j))
+    pub level2 : (d j : ℕ) → (past .half d j .level2 ≡ true) ↔ Happened (Level2In (halfOf d j))
+    -- one in which no event was accepted, as those passed over: no advance (and no marks, by the two above)
+    pub passed : (q : ℕ) → (Happened (λ p e. q ≡ now p) → ⊥) → unitsIn q ≡ 0
+    -- the days
+    pub outage : (d : ℕ) → Flagged powerLost d ↔ Happened (Outage d)
+    pub meter : (d : ℕ) → Flagged meterChanged d ↔ Happened (MeterOn d)
+    pub reset : (d : ℕ) → Flagged demandCleared d ↔ Happened (ResetOn d)
+
+  pub record Life : Type 0 where
+    -- in range, so each answer is 1, 6, 2 or 3 exactly where the paper says, and never 4 or 5
+    pub range : inRange (end .recorder) ≡ true
+    pub answers : (e : Event) → answerOf end e ≡ due s told e
+    pub ring : Ring
+    pub means : Means
