@@ -21,6 +21,14 @@ struct Tally {
     failed: u64,
 }
 
+impl Tally {
+    /// Prints both counts; true where nothing failed.
+    fn told(&self) -> bool {
+        println!("{} passed, {} failed", self.passed, self.failed);
+        self.failed == 0
+    }
+}
+
 /// Compares so many rounds; true where no difference was found.
 pub fn compare(seed: u64, rounds: u64, replay: &str, list: &str) -> bool {
     let mut tally = Tally::default();
@@ -33,14 +41,28 @@ pub fn compare(seed: u64, rounds: u64, replay: &str, list: &str) -> bool {
             compare_script(script, &name, replay, &mut tally);
             blocks.collect(&script.text);
         }
-        let blocks = blocks.into_list();
-        eprintln!("round {round}: {} listings", blocks.len());
-        for (index, block) in blocks.iter().enumerate() {
-            compare_listing(block, &format!("second-{seed}-{round}-listing-{index}"), list, &mut tally);
-        }
+        list_all(blocks, &format!("second-{seed}-{round}"), list, &mut tally);
     }
-    println!("{} passed, {} failed", tally.passed, tally.failed);
-    tally.failed == 0
+    tally.told()
+}
+
+/// Compares the listings of one round's blocks alone; true where no difference was found.
+pub fn listings(seed: u64, list: &str) -> bool {
+    let mut tally = Tally::default();
+    let mut blocks = Blocks::default();
+    for script in &lives::round(seed) {
+        blocks.collect(&script.text);
+    }
+    list_all(blocks, &format!("second-{seed}"), list, &mut tally);
+    tally.told()
+}
+
+fn list_all(blocks: Blocks, name: &str, list: &str, tally: &mut Tally) {
+    let blocks = blocks.into_list();
+    eprintln!("{name}: {} listings", blocks.len());
+    for (index, block) in blocks.iter().enumerate() {
+        compare_listing(block, &format!("{name}-listing-{index}"), list, tally);
+    }
 }
 
 /// Runs a command with an input; what it printed. A command that can't be run prints nothing.

@@ -29,6 +29,7 @@ second list                                  lists the block on standard input
 second make SEED DIR COUNT                   writes COUNT scripts of all kinds as DIR/NNN.script
 second compare SEED ROUNDS REPLAY LISTING    plays scripts here and by the command REPLAY, lists blocks here
                                              and by the command LISTING, and prints where they differ
+second listings SEED LISTING                 lists the blocks of one round here and by the command LISTING
 second cover SEED                            prints how often each call gives each answer in one round
 second --help                                prints this
 
@@ -62,6 +63,7 @@ fn command(words: &[&str]) -> Option<io::Result<bool>> {
         ["compare", seed, rounds, replay, listing] => {
             Some(Ok(compare::compare(seed.parse().ok()?, rounds.parse().ok()?, replay, listing)))
         }
+        ["listings", seed, listing] => Some(Ok(compare::listings(seed.parse().ok()?, listing))),
         ["cover", seed] => Some(Ok(cover::cover(seed.parse().ok()?))),
         ["--help"] => Some(io::stdout().write_all(HELP.as_bytes()).map(|()| true)),
         _ => None,
