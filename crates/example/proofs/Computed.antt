@@ -46,7 +46,7 @@ use Rattle.rooms.specs.View.{halfOf, viewIn, viewOf}
 use Rattle.store.specs.Begun.{begun, filled as store-filled}
 use Rattle.store.specs.Store.{closed, flagAt, flagged, opened, passed, pushAt, turned}
 use Rattle.writer.specs.Send.{sendOf}
-use Rattle.example.specs.Example.{identifier, meter, lent, calls, block, late, ledger, newlyBy}
+use Rattle.example.specs.Example.{identifier, meter, lent, calls, block, ledger, newlyBy}
 
 -- what is opened for that, by its place
 opens-under : Unit {0}
@@ -93,17 +93,13 @@ pub outage : map (viewOf (block 2) .flags) (0 ∷ 1 ∷ 2 ∷ []) ≡ 128 ∷ 12
 unfolding opens
 outage = refl
 
-pub in-order : newlyBy 130 1 (block 0 ∷ block 1 ∷ []) ≡ 2 ∷ 2 ∷ []
+pub in-order : newlyBy (block 0 ∷ block 1 ∷ []) ≡ 2 ∷ 2 ∷ []
 unfolding opens
 in-order = refl
 
-pub swapped : newlyBy 130 1 (block 1 ∷ block 0 ∷ []) ≡ 4 ∷ 0 ∷ []
+pub swapped : newlyBy (block 1 ∷ block 0 ∷ []) ≡ 4 ∷ 0 ∷ []
 unfolding opens
 swapped = refl
-
-pub newly : newlyBy 358 3 late ≡ 96 ∷ 0 ∷ []
-unfolding opens
-newly = refl
 
 -- when the two blocks were read, and the days that they carry
 pub third-read : viewOf (block 2) .time ∷ viewOf (block 2) .days ∷ [] ≡ 173400 ∷ 3 ∷ []

@@ -8,6 +8,7 @@ use mathlib.Core.List.{List, [], _∷_, map, List·Memᴰ, List·Memᴰ·head, L
 use native.Mathlib.Decide.{decLt}
 use native.Mathlib.Omega.{arith}
 use lib.ListN.{length, getD}
+use Rattle.laws.specs.Tests.{sumBelow}
 use Rattle.laws.proofs.Split.{by-dec}
 use Rattle.calendar.specs.Clock.{endedOn}
 use Rattle.calendar.proofs.Times.{ended-formula}
@@ -168,6 +169,15 @@ unbroken p lo hi =
     (λ q. let z : p / 48 ≡ 0 = omega arith in rw (z, half-hours 0 48 (omega arith) (nth _ _ ended 0) refl) (omega arith))
     (λ q. let o : p / 48 ≡ 1 = omega arith in rw (o, half-hours 1 48 (omega arith) (nth _ _ ended 1) refl) (omega arith))
 
+all-held : sumBelow (λ i. count (heldOn held (0 + i))) 3 ≡ 96
+unfolding sumBelow
+all-held =
+    rw (
+      half-hours 0 48 (omega arith) (nth _ _ ended 0) refl,
+      half-hours 1 48 (omega arith) (nth _ _ ended 1) refl,
+      half-hours 2 0 (omega arith) none refl,
+    )
+
 pub worked : Worked
 worked = record {
   answers = computed.answers;
@@ -175,7 +185,7 @@ worked = record {
   outage = computed.outage;
   in-order = computed.in-order;
   swapped = computed.swapped;
-  newly = computed.newly;
+  newly = holds .newly ∙ all-held;
   first = whole 0 0 (omega arith) (nth _ _ ended 0) refl (nth _ _ starts 0) (nth _ _ flags 0);
   second = whole 1 120 (omega arith) (nth _ _ ended 1) refl (nth _ _ starts 1) (nth _ _ flags 1);
   third =

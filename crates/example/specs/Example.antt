@@ -19,7 +19,7 @@ use Rattle.recorder.specs.Step.{step}
 use Rattle.recorder.specs.SetUp.{given, setUp}
 use Rattle.readout.specs.Read.{readOf}
 use Rattle.assurance.specs.Run.{Call, happens, reads, left, blocksIn}
-use Rattle.assurance.specs.Delivered.{answersAll, heldOn, counted, opened, filed}
+use Rattle.assurance.specs.Delivered.{answersAll, carriedAll, heldOn, counted, opened, filed}
 
 -- ABCX24000017, class a, 10 Wh a pulse, from 2000-01-01 00:00:00
 abbrev pub identifier : List ℕ
@@ -61,9 +61,9 @@ ledger = replicate 358 0
 abbrev pub held : List ℕ
 held = filed meter lent calls ledger 0 3 late
 
--- what is newly held by each of some blocks, in a ledger of so many bytes and days
-abbrev pub newlyBy : ℕ → ℕ → List (List ℕ) → List ℕ
-newlyBy bytes days bs = map (λ (a : Answer). a .carried) (answersAll (opened meter lent calls (replicate bytes 0) 0 days bs) bs)
+-- what is newly held by each of some blocks, in a ledger of the first day alone
+abbrev pub newlyBy : List (List ℕ) → List ℕ
+newlyBy bs = map (λ (a : Answer). a .carried) (answersAll (opened meter lent calls (replicate 130 0) 0 1 bs) bs)
 
 -- day d is held with so many half-hours, this start and these flags; and the value of half-hour j
 pub record IsDay (d k start flags : ℕ) : Type 0 where
@@ -82,10 +82,10 @@ pub record Worked : Type 0 where
   -- off 23:50 on the 1st, on 00:10 on the 3rd: three days flagged 0x80
   pub outage : map (viewOf (block 2) .flags) (0 ∷ 1 ∷ 2 ∷ []) ≡ 128 ∷ 128 ∷ 128 ∷ []
   -- one-day blocks of 01:10 and 02:05, either order: 4 held
-  pub in-order : newlyBy 130 1 (block 0 ∷ block 1 ∷ []) ≡ 2 ∷ 2 ∷ []
-  pub swapped : newlyBy 130 1 (block 1 ∷ block 0 ∷ []) ≡ 4 ∷ 0 ∷ []
-  -- the late block brings nothing new: two days are whole, with their flags; of the third only the start is known, and all of it is missing
-  pub newly : newlyBy 358 3 late ≡ 96 ∷ 0 ∷ []
+  pub in-order : newlyBy (block 0 ∷ block 1 ∷ []) ≡ 2 ∷ 2 ∷ []
+  pub swapped : newlyBy (block 1 ∷ block 0 ∷ []) ≡ 4 ∷ 0 ∷ []
+  -- the third block, and then the late one: two days are whole, with their flags; of the third only the start is known, and all of it is missing
+  pub newly : carriedAll (answersAll (opened meter lent calls ledger 0 3 late) late) ≡ 96
   pub first : IsDay 0 48 0 128
   pub second : IsDay 1 48 120 128
   pub third : IsDay 2 0 120 0
