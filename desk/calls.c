@@ -1,5 +1,6 @@
 /* Calls the library as a C program does: every function's answers, what it carries, and the memory that it leaves. Exit status 0 where all is right. */
 #include "cop6.h"
+#include "sample.h"
 
 #include <stdio.h>
 #include <stdlib.h>
@@ -29,6 +30,20 @@ static size_t one_day(uint8_t *b, const char *time) {
         memcpy(b + 127 + 4 * j, j == 0 ? "1150" : "1230", 4);
     memset(b + 319, 0, 12);
     return COP6_BLOCK_BYTES(1);
+}
+
+/* The shortest block and the longest, 450 days, read and filed whole. */
+static void longest(uint32_t day) {
+    static uint8_t block[COP6_BLOCK_BYTES(450)], ledger[16 + 114 * 450];
+    IS(sample_block(block, 0, day, 2, 1), 112);
+    IS(memcmp(block, "\0\0\0\x6c\1", 5), 0);
+    IS(cop6_read(block, 112), ANSWER(COP6_DONE, 0));
+    IS(sample_block(block, 450, day, 2, 1), 98662);
+    IS(memcmp(block, "\0\1\x81\x62\1", 5), 0);
+    IS(cop6_read(block, sizeof block), ANSWER(COP6_DONE, 450));
+    IS(cop6_open(ledger, sizeof ledger, (const uint8_t *)SAMPLE_METER, 12, day - 449, 450), ANSWER(COP6_DONE, 0));
+    IS(cop6_file(ledger, sizeof ledger, block, sizeof block), ANSWER(COP6_DONE, 449 * 48 + 2));
+    IS(cop6_file(ledger, sizeof ledger, block, sizeof block), ANSWER(COP6_DONE, 0));
 }
 
 int main(void) {
@@ -152,5 +167,6 @@ int main(void) {
     ledger[16 + 114 + 102] = 0x20;
     IS(cop6_halves(ledger, sizeof ledger, day, x, 50), ANSWER(COP6_DAMAGED, 0));
 
+    longest(day);
     return wrong;
 }
