@@ -146,12 +146,9 @@ fn write(life: &mut Life) {
 }
 
 fn spoil_header(life: &mut Life, header: &Header) {
-    for (name, right) in [
-        ("kwh", header.kwh),
-        ("current", header.current),
-        ("previous", header.previous),
-        ("summed", header.cumulative),
-    ] {
+    for (name, right) in
+        [("kwh", header.kwh), ("current", header.current), ("previous", header.previous), ("summed", header.cumulative)]
+    {
         for number in SIX_DIGITS {
             life.say(format!("given {name} {number}"));
             write(life);
