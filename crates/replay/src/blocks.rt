@@ -1,5 +1,4 @@
 // The current block, and those that are kept. Each has a shelf with room for the longest block; the last shelf is the current block's.
-use crate::State;
 use crate::command::OfBlock;
 use crate::memory;
 use crate::say;
@@ -18,18 +17,29 @@ pub fn output(blocks: &mut [u8], room: usize) -> &mut [u8] {
     memory::part_mut(blocks, place(CURRENT), memory::smaller(room, SHELF))
 }
 
+// How much of each shelf is taken.
+pub struct Shelves {
+    lengths: [usize; 33],
+}
+
 fn check(block: &[u8]) {
     let answer = reader::read(block);
     say::answer(answer.number, answer.carried);
 }
 
-impl State {
+impl Shelves {
+    pub fn empty() -> Shelves {
+        Shelves {
+            lengths: [0usize; 33],
+        }
+    }
+
     fn length(self, k: usize) -> usize {
         let lengths = self.lengths;
         if k < 33 { lengths[k] } else { 0 }
     }
 
-    fn holds(mut self, k: usize, n: usize) -> State {
+    fn holds(mut self, k: usize, n: usize) -> Shelves {
         if k < 33 {
             let mut lengths = self.lengths;
             lengths[k] = n;
@@ -48,7 +58,7 @@ impl State {
     }
 
     // What was written becomes the current block.
-    pub fn sent(self, answer: u32, carried: u32) -> State {
+    pub fn sent(self, answer: u32, carried: u32) -> Shelves {
         say::answer(answer, carried);
         if answer == 0 {
             return self.holds(CURRENT, carried as usize);
@@ -56,57 +66,51 @@ impl State {
         self
     }
 
-    fn hex(self, word: &[u8], blocks: &mut [u8]) -> State {
+    fn hex(self, at: u64, word: &[u8], blocks: &mut [u8]) -> Shelves {
         let Number::Is(n) = script::unhex(word, output(blocks, SHELF)) else {
-            return self.unread();
+            say::unread(at);
+            return self;
         };
         say::done(n as usize);
         self.holds(CURRENT, n as usize)
     }
 
-    fn byte(self, i: usize, b: u32, blocks: &mut [u8]) -> State {
-        self.said(memory::put(output(blocks, self.length(CURRENT)), i, b))
+    fn byte(self, at: u64, i: usize, b: u32, blocks: &mut [u8]) -> Shelves {
+        say::known(at, memory::put(output(blocks, self.length(CURRENT)), i, b));
+        self
     }
 
-    fn cut(self, n: usize, blocks: &mut [u8]) -> State {
+    fn cut(self, n: usize, blocks: &mut [u8]) -> Shelves {
         memory::clear_from(output(blocks, n), self.length(CURRENT));
         say::done(n);
         self.holds(CURRENT, n)
     }
 
     // Shelf `to` gets what shelf `from` has.
-    fn copied(self, from: usize, to: usize, blocks: &mut [u8]) -> State {
+    fn copied(self, from: usize, to: usize, blocks: &mut [u8]) -> Shelves {
         let n = self.length(from);
         memory::copy(blocks, place(from), place(to), n);
         say::done(n);
         self.holds(to, n)
     }
 
-    fn printed(self, blocks: &[u8]) -> State {
-        say::hex(self.current(blocks));
-        self
-    }
-
-    fn checked(self, blocks: &[u8]) -> State {
-        check(self.current(blocks));
-        self
-    }
-
-    fn listed(self, blocks: &[u8]) -> State {
-        say::listing(self.current(blocks));
-        self
-    }
-
-    pub fn block(self, asked: OfBlock, line: &[u8], blocks: &mut [u8]) -> State {
+    fn shown(self, asked: OfBlock, blocks: &[u8]) -> Shelves {
         match asked {
-            OfBlock::Print => self.printed(blocks),
-            OfBlock::Hex => self.hex(script::word(line, 1), blocks),
-            OfBlock::Byte(i, b) => self.byte(i, b, blocks),
+            OfBlock::Print => say::hex(self.current(blocks)),
+            OfBlock::Check => check(self.current(blocks)),
+            _ => say::listing(self.current(blocks)),
+        }
+        self
+    }
+
+    pub fn obeyed(self, at: u64, asked: OfBlock, line: &[u8], blocks: &mut [u8]) -> Shelves {
+        match asked {
+            OfBlock::Hex => self.hex(at, script::word(line, 1), blocks),
+            OfBlock::Byte(i, b) => self.byte(at, i, b, blocks),
             OfBlock::Cut(n) => self.cut(n, blocks),
-            OfBlock::Check => self.checked(blocks),
             OfBlock::Keep(k) => self.copied(CURRENT, k, blocks),
             OfBlock::Take(k) => self.copied(k, CURRENT, blocks),
-            OfBlock::Listing => self.listed(blocks),
+            _ => self.shown(asked, blocks),
         }
     }
 }

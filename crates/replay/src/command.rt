@@ -7,8 +7,12 @@ use store::Class;
 
 pub enum Command {
     Meter(OfMeter),
+    Lend(Lengths),
+    LendAgain,
+    Read(u32, usize),
     Block(OfBlock),
     Fields(OfFields),
+    Write(usize),
     Ledger(OfLedger),
     Unread,
 }
@@ -17,11 +21,8 @@ pub enum Command {
 pub enum OfMeter {
     SetUp(Start),
     Event(Event),
-    Read(u32, usize),
     Day(u32),
     Show,
-    Lend(Lengths),
-    LendAgain,
     Poke,
 }
 
@@ -41,7 +42,6 @@ pub enum OfBlock {
 pub enum OfFields {
     Take,
     Give,
-    Write(usize),
 }
 
 pub enum OfLedger {
@@ -102,7 +102,7 @@ fn alone(name: u64) -> Command {
         names::RESET => event(Event::Reset),
         names::REVERSE => event(Event::Reverse),
         names::SHOW => Command::Meter(OfMeter::Show),
-        names::LEND => Command::Meter(OfMeter::LendAgain),
+        names::LEND => Command::LendAgain,
         names::BLOCK => Command::Block(OfBlock::Print),
         names::CHECK => Command::Block(OfBlock::Check),
         names::LISTING => Command::Block(OfBlock::Listing),
@@ -132,7 +132,7 @@ fn with_number(name: u64, n: u32) -> Command {
         names::COUNT => event(Event::Count(n)),
         names::METER => event(Event::Meter(n)),
         names::RATE => event(Event::Rate(n)),
-        names::READ => Command::Meter(OfMeter::Read(n, LONGEST_BLOCK as usize)),
+        names::READ => Command::Read(n, LONGEST_BLOCK as usize),
         names::CUT => with_room(name, n),
         names::WRITE => with_room(name, n),
         _ => with_shelf(name, n),
@@ -145,7 +145,7 @@ fn with_room(name: u64, n: u32) -> Command {
     }
     match name {
         names::CUT => Command::Block(OfBlock::Cut(n as usize)),
-        _ => Command::Fields(OfFields::Write(n as usize)),
+        _ => Command::Write(n as usize),
     }
 }
 
@@ -193,7 +193,7 @@ fn read_into(days: u32, room: u32) -> Command {
     if LONGEST_BLOCK < room {
         return Command::Unread;
     }
-    Command::Meter(OfMeter::Read(days, room as usize))
+    Command::Read(days, room as usize)
 }
 
 fn with_numbers(name: u64, a: u32, b: u32) -> Command {
@@ -224,11 +224,11 @@ fn lend(a: u32, b: u32, c: u32) -> Command {
     if !fit {
         return Command::Unread;
     }
-    Command::Meter(OfMeter::Lend(Lengths {
+    Command::Lend(Lengths {
         values: a as usize,
         starts: b as usize,
         marks: c as usize,
-    }))
+    })
 }
 
 fn open(id: &[u8], day: &[u8], n: u32) -> Command {

@@ -1,5 +1,5 @@
 // The ledger.
-use crate::State;
+use crate::blocks::Shelves;
 use crate::command::OfLedger;
 use crate::memory;
 use crate::say;
@@ -44,62 +44,46 @@ fn open(ledger: &mut [u8], id: &[u8], first: u32, days: u32) {
     say::answer(answer, 0);
 }
 
-impl State {
-    fn ledger_in(self, ledger: &[u8]) -> &[u8] {
-        memory::part(ledger, 0, self.ledger)
-    }
+fn opened(id: &[u8], first: u32, days: u32, ledger: &mut [u8]) -> usize {
+    let n = room_for(days, ledger.len());
+    open(memory::part_mut(ledger, 0, n), id, first, days);
+    n
+}
 
-    fn ledger_of(self, ledger: &mut [u8]) -> &mut [u8] {
-        memory::part_mut(ledger, 0, self.ledger)
-    }
+fn lent(n: usize, to: usize, ledger: &mut [u8]) -> usize {
+    memory::clear_from(memory::part_mut(ledger, 0, to), n);
+    say::done(0);
+    to
+}
 
-    fn opened(mut self, id: &[u8], first: u32, days: u32, ledger: &mut [u8]) -> State {
-        self.ledger = room_for(days, ledger.len());
-        open(self.ledger_of(ledger), id, first, days);
-        self
+// What is asked of the ledger as it is lent.
+fn asked_of(at: u64, asked: OfLedger, shelves: Shelves, blocks: &[u8], ledger: &mut [u8]) {
+    match asked {
+        OfLedger::File => file(ledger, shelves.current(blocks)),
+        OfLedger::Deliver(k) => file(ledger, shelves.kept(blocks, k)),
+        OfLedger::Summary(day) => summary(ledger, day),
+        OfLedger::Missing(day) => missing(ledger, day),
+        OfLedger::Poke(i, b) => say::known(at, memory::put(ledger, i, b)),
+        _ => say::hex(ledger),
     }
+}
 
-    fn filed(self, block: &[u8], ledger: &mut [u8]) -> State {
-        file(self.ledger_of(ledger), block);
-        self
-    }
-
-    fn summed(self, day: u32, ledger: &[u8]) -> State {
-        summary(self.ledger_in(ledger), day);
-        self
-    }
-
-    fn missed(self, day: u32, ledger: &[u8]) -> State {
-        missing(self.ledger_in(ledger), day);
-        self
-    }
-
-    fn print_ledger(self, ledger: &[u8]) -> State {
-        say::hex(self.ledger_in(ledger));
-        self
-    }
-
-    fn lend_ledger(mut self, n: usize, ledger: &mut [u8]) -> State {
-        memory::clear_from(memory::part_mut(ledger, 0, n), self.ledger);
-        self.ledger = n;
-        say::done(0);
-        self
-    }
-
-    fn poke_ledger(self, i: usize, b: u32, ledger: &mut [u8]) -> State {
-        self.said(memory::put(self.ledger_of(ledger), i, b))
-    }
-
-    pub fn desk(self, asked: OfLedger, line: &[u8], blocks: &[u8], ledger: &mut [u8]) -> State {
-        match asked {
-            OfLedger::Open(first, days) => self.opened(script::word(line, 1), first, days, ledger),
-            OfLedger::File => self.filed(self.current(blocks), ledger),
-            OfLedger::Deliver(k) => self.filed(self.kept(blocks, k), ledger),
-            OfLedger::Summary(day) => self.summed(day, ledger),
-            OfLedger::Missing(day) => self.missed(day, ledger),
-            OfLedger::Print => self.print_ledger(ledger),
-            OfLedger::Lend(n) => self.lend_ledger(n, ledger),
-            OfLedger::Poke(i, b) => self.poke_ledger(i, b, ledger),
+// How long the ledger is afterwards, of which n bytes are lent.
+pub fn obeyed(
+    at: u64,
+    n: usize,
+    asked: OfLedger,
+    line: &[u8],
+    shelves: Shelves,
+    blocks: &[u8],
+    ledger: &mut [u8],
+) -> usize {
+    match asked {
+        OfLedger::Open(first, days) => opened(script::word(line, 1), first, days, ledger),
+        OfLedger::Lend(to) => lent(n, to, ledger),
+        _ => {
+            asked_of(at, asked, shelves, blocks, memory::part_mut(ledger, 0, n));
+            n
         }
     }
 }

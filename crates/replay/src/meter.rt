@@ -1,6 +1,6 @@
 // The recorder and its store, lent as the script says.
-use crate::State;
 use crate::blocks;
+use crate::blocks::Shelves;
 use crate::command::Lengths;
 use crate::command::OfMeter;
 use crate::command::Start;
@@ -14,6 +14,13 @@ use quantity::WattHours;
 use recorder::Event;
 use recorder::Recorder;
 use store::Class;
+
+// The recorder, the lengths that its store is lent with, and whether a `lend` stands.
+pub struct Meter {
+    pub recorder: Recorder,
+    pub lent: Lengths,
+    pub stands: bool,
+}
 
 // The lengths of a class's store.
 fn lengths_of(class: Class) -> Lengths {
@@ -49,94 +56,190 @@ fn identifier(word: &[u8]) -> [u8; 12] {
     id
 }
 
-impl State {
-    fn is_now(mut self, recorder: Recorder) -> State {
-        self.recorder = recorder;
-        self
+// ---- set-up and events
+
+fn set_up(
+    start: Start,
+    word: &[u8],
+    values: &mut [u16],
+    starts: &mut [u32],
+    marks: &mut [u64],
+) -> Recorder {
+    let class = start.class;
+    let done = Recorder::set_up(
+        identifier(word),
+        class,
+        WattHours(start.weight as u64),
+        start.time,
+        WattHours(start.total),
+        start.counter,
+        values,
+        starts,
+        marks,
+    );
+    say::answer(done.answer, done.carried);
+    done.recorder
+}
+
+fn step(
+    recorder: Recorder,
+    event: Event,
+    values: &mut [u16],
+    starts: &mut [u32],
+    marks: &mut [u64],
+) -> Recorder {
+    let done = recorder.step(event, values, starts, marks);
+    say::answer(done.answer, done.carried);
+    done.recorder
+}
+
+// The room of a day, as it lies in the store.
+fn show_day(at: u64, class: Class, day: u32, values: &[u16], starts: &[u32], marks: &[u64]) {
+    let days = class.days();
+    if days == 0 {
+        say::unread(at);
+        return;
     }
-
-    // ---- set-up and events
-
-    fn set_up(
-        self,
-        start: Start,
-        word: &[u8],
-        values: &mut [u16],
-        starts: &mut [u32],
-        marks: &mut [u64],
-    ) -> State {
-        let class = start.class;
-        let done = Recorder::set_up(
-            identifier(word),
-            class,
-            WattHours(start.weight as u64),
-            start.time,
-            WattHours(start.total),
-            start.counter,
-            values,
-            starts,
-            marks,
-        );
-        say::answer(done.answer, done.carried);
-        self.is_now(done.recorder)
+    if !show::day(room(day, days) as usize, values, starts, marks) {
+        say::unread(at);
     }
+}
 
-    fn event(
-        self,
-        event: Event,
-        values: &mut [u16],
-        starts: &mut [u32],
-        marks: &mut [u64],
-    ) -> State {
-        let recorder = self.recorder;
-        let done = recorder.step(event, values, starts, marks);
-        say::answer(done.answer, done.carried);
-        self.is_now(done.recorder)
+// ---- damage
+
+fn poke_field(at: u64, r: Recorder, name: u64, word: &[u8]) -> Recorder {
+    let Number::Is(n) = script::number(word) else {
+        say::unread(at);
+        return r;
+    };
+    let done = poke::field(r, name, n);
+    say::known(at, done.known);
+    done.recorder
+}
+
+fn poke_element(at: u64, r: Recorder, name: u64, i: u64, n: u64) -> Recorder {
+    let done = poke::element(r, name, i, n);
+    say::known(at, done.known);
+    done.recorder
+}
+
+fn poke_at(
+    at: u64,
+    r: Recorder,
+    name: u64,
+    i: u64,
+    n: u64,
+    values: &mut [u16],
+    starts: &mut [u32],
+    marks: &mut [u64],
+) -> Recorder {
+    match name {
+        names::VALUE => say::known(at, memory::put_value(i as usize, n, values)),
+        names::START => say::known(at, memory::put_start(i as usize, n, starts)),
+        names::MARK => say::known(at, memory::put_mark(i as usize, n, marks)),
+        _ => return poke_element(at, r, name, i, n),
     }
+    r
+}
 
-    // ---- the recorder and its store looked at
+fn poke_place(
+    at: u64,
+    r: Recorder,
+    line: &[u8],
+    values: &mut [u16],
+    starts: &mut [u32],
+    marks: &mut [u64],
+) -> Recorder {
+    let name = script::name(script::word(line, 1));
+    let Number::Is(i) = script::number(script::word(line, 2)) else {
+        say::unread(at);
+        return r;
+    };
+    let Number::Is(n) = script::number(script::word(line, 3)) else {
+        say::unread(at);
+        return r;
+    };
+    poke_at(at, r, name, i, n, values, starts, marks)
+}
 
-    fn read(
-        self,
-        days: u32,
-        room: usize,
-        values: &[u16],
-        starts: &[u32],
-        marks: &[u64],
-        blocks: &mut [u8],
-    ) -> State {
-        let recorder = self.recorder;
-        let done = readout::read(
-            recorder,
-            days,
-            values,
-            starts,
-            marks,
-            blocks::output(blocks, room),
-        );
-        self.sent(done.answer, done.carried)
-    }
-
-    // The room of a day, as it lies in the store.
-    fn day(self, day: u32, values: &[u16], starts: &[u32], marks: &[u64]) -> State {
-        let days = class_in(self.recorder).days();
-        if days == 0 {
-            return self.unread();
+// `poke NAME N` and `poke NAME I N`.
+fn poke(
+    at: u64,
+    r: Recorder,
+    line: &[u8],
+    values: &mut [u16],
+    starts: &mut [u32],
+    marks: &mut [u64],
+) -> Recorder {
+    match script::arguments(line) {
+        2 => poke_field(
+            at,
+            r,
+            script::name(script::word(line, 1)),
+            script::word(line, 2),
+        ),
+        3 => poke_place(at, r, line, values, starts, marks),
+        _ => {
+            say::unread(at);
+            r
         }
-        if show::day(room(day, days) as usize, values, starts, marks) {
-            return self;
+    }
+}
+
+// ---- with the store as it is lent
+
+fn with_store(
+    at: u64,
+    r: Recorder,
+    asked: OfMeter,
+    line: &[u8],
+    values: &mut [u16],
+    starts: &mut [u32],
+    marks: &mut [u64],
+) -> Recorder {
+    match asked {
+        OfMeter::SetUp(start) => set_up(start, script::word(line, 1), values, starts, marks),
+        OfMeter::Event(event) => step(r, event, values, starts, marks),
+        OfMeter::Poke => poke(at, r, line, values, starts, marks),
+        OfMeter::Day(day) => {
+            show_day(at, class_in(r), day, values, starts, marks);
+            r
         }
-        self.unread()
+        OfMeter::Show => {
+            show::recorder(r);
+            r
+        }
+    }
+}
+
+fn read_out(
+    r: Recorder,
+    shelves: Shelves,
+    days: u32,
+    room: usize,
+    values: &[u16],
+    starts: &[u32],
+    marks: &[u64],
+    blocks: &mut [u8],
+) -> Shelves {
+    let done = readout::read(r, days, values, starts, marks, blocks::output(blocks, room));
+    shelves.sent(done.answer, done.carried)
+}
+
+impl Meter {
+    pub fn blank() -> Meter {
+        Meter {
+            recorder: Recorder::blank(),
+            lent: Lengths {
+                values: 0,
+                starts: 0,
+                marks: 0,
+            },
+            stands: false,
+        }
     }
 
-    fn shown(self) -> State {
-        show::recorder(self.recorder);
-        self
-    }
-
-    // ---- how the store is lent
-
-    fn lend(mut self, lengths: Lengths) -> State {
+    pub fn lend(mut self, lengths: Lengths) -> Meter {
         self.lent = lengths;
         self.stands = true;
         say::done(0);
@@ -144,14 +247,14 @@ impl State {
     }
 
     // With the lengths of the recorder's class again.
-    fn lend_again(mut self) -> State {
+    pub fn lend_again(mut self) -> Meter {
         self.lent = lengths_of(class_in(self.recorder));
         self.stands = false;
         say::done(0);
         self
     }
 
-    fn lend_for(mut self, start: Start) -> State {
+    fn lend_for(mut self, start: Start) -> Meter {
         let class = start.class;
         if !self.stands {
             self.lent = lengths_of(class);
@@ -160,128 +263,77 @@ impl State {
     }
 
     // A set-up lends the lengths of its class.
-    fn prepared(self, asked: OfMeter) -> State {
+    fn prepared(self, asked: OfMeter) -> Meter {
         match asked {
             OfMeter::SetUp(start) => self.lend_for(start),
             _ => self,
         }
     }
 
-    // ---- damage
-
-    fn poked(self, recorder: Recorder, known: bool) -> State {
-        if !known {
-            return self.unread();
-        }
-        say::done(0);
-        self.is_now(recorder)
-    }
-
-    fn poke_field(self, name: u64, word: &[u8]) -> State {
-        let Number::Is(n) = script::number(word) else {
-            return self.unread();
-        };
-        let done = poke::field(self.recorder, name, n);
-        self.poked(done.recorder, done.known)
-    }
-
-    fn poke_element(self, name: u64, i: u64, n: u64) -> State {
-        let done = poke::element(self.recorder, name, i, n);
-        self.poked(done.recorder, done.known)
-    }
-
-    fn poke_at(
-        self,
-        name: u64,
-        i: u64,
-        n: u64,
-        values: &mut [u16],
-        starts: &mut [u32],
-        marks: &mut [u64],
-    ) -> State {
-        match name {
-            names::VALUE => self.said(memory::put_value(i as usize, n, values)),
-            names::START => self.said(memory::put_start(i as usize, n, starts)),
-            names::MARK => self.said(memory::put_mark(i as usize, n, marks)),
-            _ => self.poke_element(name, i, n),
-        }
-    }
-
-    fn poke_place(
-        self,
-        line: &[u8],
-        values: &mut [u16],
-        starts: &mut [u32],
-        marks: &mut [u64],
-    ) -> State {
-        let name = script::name(script::word(line, 1));
-        let Number::Is(i) = script::number(script::word(line, 2)) else {
-            return self.unread();
-        };
-        let Number::Is(n) = script::number(script::word(line, 3)) else {
-            return self.unread();
-        };
-        self.poke_at(name, i, n, values, starts, marks)
-    }
-
-    // `poke NAME N` and `poke NAME I N`.
-    fn poke(self, line: &[u8], values: &mut [u16], starts: &mut [u32], marks: &mut [u64]) -> State {
-        match script::arguments(line) {
-            2 => self.poke_field(script::name(script::word(line, 1)), script::word(line, 2)),
-            3 => self.poke_place(line, values, starts, marks),
-            _ => self.unread(),
-        }
-    }
-
-    // ---- any of them
-
-    fn with_store(
-        self,
-        asked: OfMeter,
-        line: &[u8],
-        values: &mut [u16],
-        starts: &mut [u32],
-        marks: &mut [u64],
-        blocks: &mut [u8],
-    ) -> State {
-        match asked {
-            OfMeter::SetUp(start) => self.set_up(
-                start,
-                script::word(line, 1),
-                values,
-                starts,
-                marks,
-            ),
-            OfMeter::Event(event) => self.event(event, values, starts, marks),
-            OfMeter::Read(days, room) => self.read(days, room, values, starts, marks, blocks),
-            OfMeter::Day(day) => self.day(day, values, starts, marks),
-            OfMeter::Show => self.shown(),
-            OfMeter::Lend(lengths) => self.lend(lengths),
-            OfMeter::LendAgain => self.lend_again(),
-            OfMeter::Poke => self.poke(line, values, starts, marks),
-        }
+    fn is_now(mut self, recorder: Recorder) -> Meter {
+        self.recorder = recorder;
+        self
     }
 
     // The store is what lies first in the three rows.
-    pub fn meter(
+    fn with_lent(
         self,
+        at: u64,
         asked: OfMeter,
         line: &[u8],
         values: &mut [u16],
         starts: &mut [u32],
         marks: &mut [u64],
-        blocks: &mut [u8],
-    ) -> State {
-        let state = self.prepared(asked);
-        let v = memory::smaller(state.lent.values, values.len());
-        let s = memory::smaller(state.lent.starts, starts.len());
-        let m = memory::smaller(state.lent.marks, marks.len());
-        state.with_store(
+    ) -> Meter {
+        let v = memory::smaller(self.lent.values, values.len());
+        let s = memory::smaller(self.lent.starts, starts.len());
+        let m = memory::smaller(self.lent.marks, marks.len());
+        let next = with_store(
+            at,
+            self.recorder,
             asked,
             line,
             &mut values[0..v],
             &mut starts[0..s],
             &mut marks[0..m],
+        );
+        self.is_now(next)
+    }
+
+    pub fn obeyed(
+        self,
+        at: u64,
+        asked: OfMeter,
+        line: &[u8],
+        values: &mut [u16],
+        starts: &mut [u32],
+        marks: &mut [u64],
+    ) -> Meter {
+        self.prepared(asked)
+            .with_lent(at, asked, line, values, starts, marks)
+    }
+
+    pub fn read(
+        self,
+        shelves: Shelves,
+        days: u32,
+        room: usize,
+        values: &[u16],
+        starts: &[u32],
+        marks: &[u64],
+        blocks: &mut [u8],
+    ) -> Shelves {
+        let v = memory::smaller(self.lent.values, values.len());
+        let s = memory::smaller(self.lent.starts, starts.len());
+        let m = memory::smaller(self.lent.marks, marks.len());
+        read_out(
+            self.recorder,
+            shelves,
+            days,
+            room,
+            &values[0..v],
+            &starts[0..s],
+            &marks[0..m],
             blocks,
         )
     }

@@ -43,6 +43,15 @@ pub fn unread(line: u64) {
     end();
 }
 
+// Whether a line names something that is there.
+pub fn known(line: u64, known: bool) {
+    if known {
+        done(0);
+    } else {
+        unread(line);
+    }
+}
+
 fn bit(b: bool) -> u64 {
     if b { 1 } else { 0 }
 }
