@@ -1,9 +1,11 @@
-/* Times the library and the plain C of the same calls, on the same buffers, one after the other in turn: the best of many rounds of each. */
+/* Times the library and the plain C of the same calls, on the same buffers, one after the other in turn: the best of many rounds of each. What the two
+ * answer, and leave in memory, is held against each other in every round. */
 #define _POSIX_C_SOURCE 200809L
 
 #include "cop6.h"
 #include "plain.h"
 #include "sample.h"
+#include "timing.h"
 
 #include <inttypes.h>
 #include <stdio.h>
@@ -11,11 +13,21 @@
 #include <string.h>
 #include <time.h>
 
-enum { ROUNDS = 400, DAYS = COP6_MOST_DAYS, LEDGER = 16 + 114 * DAYS, BLOCK = 112 + 219 * DAYS, DAY = 8825 };
+enum { DAYS = COP6_MOST_DAYS, LEDGER = 16 + 114 * DAYS, BLOCK = 112 + 219 * DAYS, DAY = 8825 };
+enum { COUNTS = 20000, CLOCKS = 20000, YEARS = 99, READS = 20, HALF_HOUR = 1800, YEAR = 31557600 };
+#define CENTURY UINT32_C(3155759999)
 
-static uint8_t block[BLOCK], ledger[LEDGER], fresh[LEDGER];
-static uint64_t out[COP6_SUMMARY];
+static uint8_t block[BLOCK], fresh[LEDGER];
 static size_t block_length;
+
+/* What the calls may change: the library's, and the plain C's. */
+struct memory {
+    uint8_t ledger[LEDGER], read[BLOCK];
+    uint64_t summary[COP6_SUMMARY], marks[3 * DAYS];
+    uint32_t starts[DAYS];
+    uint16_t values[COP6_HALVES * DAYS];
+};
+static struct memory ours, theirs;
 
 static uint64_t nanoseconds(void) {
     struct timespec t;
@@ -23,33 +35,53 @@ static uint64_t nanoseconds(void) {
     return (uint64_t)t.tv_sec * 1000000000u + (uint64_t)t.tv_nsec;
 }
 
-/* ---- what is timed: by the library, and in plain C. `before` readies the buffers, and is not timed. */
+/* ---- what is timed: by the library, and in plain C. `before` readies the memory, and is not timed. */
 
-static void nothing(void) {}
-static void empty_ledger(void) { memcpy(ledger, fresh, LEDGER); }
+static void nothing(struct memory *m) { (void)m; }
+static void empty_ledger(struct memory *m) { memcpy(m->ledger, fresh, LEDGER); }
 
-static uint64_t library_read(void) { return cop6_read(block, block_length); }
-static uint64_t c_read(void) { return plain_read(block, block_length); }
-static uint64_t library_file(void) { return cop6_file(ledger, LEDGER, block, block_length); }
-static uint64_t c_file(void) { return plain_file(ledger, LEDGER, block, block_length); }
-static uint64_t library_summary(void) { return cop6_summary(ledger, LEDGER, DAY - 7, out, COP6_SUMMARY); }
-static uint64_t c_summary(void) { return plain_summary(ledger, LEDGER, DAY - 7, out, COP6_SUMMARY); }
+#define STORE(m) (m)->values, COP6_HALVES *DAYS, (m)->starts, DAYS, (m)->marks, 3 * DAYS
 
+static uint64_t library_read(struct memory *m) { return (void)m, cop6_read(block, block_length); }
+static uint64_t c_read(struct memory *m) { return (void)m, plain_read(block, block_length); }
+static uint64_t library_file(struct memory *m) { return cop6_file(m->ledger, LEDGER, block, block_length); }
+static uint64_t c_file(struct memory *m) { return plain_file(m->ledger, LEDGER, block, block_length); }
+static uint64_t library_summary(struct memory *m) { return cop6_summary(m->ledger, LEDGER, DAY - 7, m->summary, COP6_SUMMARY); }
+static uint64_t c_summary(struct memory *m) { return plain_summary(m->ledger, LEDGER, DAY - 7, m->summary, COP6_SUMMARY); }
+
+static uint64_t library_counts(struct memory *m) { return timed_counts(STORE(m), COUNTS); }
+static uint64_t c_counts(struct memory *m) { return plain_counts(STORE(m), COUNTS); }
+static uint64_t library_clocks(struct memory *m) { return timed_clocks(STORE(m), CLOCKS, HALF_HOUR); }
+static uint64_t c_clocks(struct memory *m) { return plain_clocks(STORE(m), CLOCKS, HALF_HOUR); }
+static uint64_t library_years(struct memory *m) { return timed_clocks(STORE(m), YEARS, YEAR); }
+static uint64_t c_years(struct memory *m) { return plain_clocks(STORE(m), YEARS, YEAR); }
+static uint64_t library_century(struct memory *m) { return timed_clocks(STORE(m), 1, CENTURY); }
+static uint64_t c_century(struct memory *m) { return plain_clocks(STORE(m), 1, CENTURY); }
+static uint64_t library_reads(struct memory *m) { return timed_reads(STORE(m), m->read, BLOCK, READS); }
+static uint64_t c_reads(struct memory *m) { return plain_reads(STORE(m), m->read, BLOCK, READS); }
+
+/* A job, how often it does what it is named for, how many rounds of it there are, and what it must answer, in which the answer number 0 is. */
 static const struct {
     const char *name;
-    void (*before)(void);
-    uint64_t (*library)(void), (*c)(void);
+    void (*before)(struct memory *);
+    uint64_t (*library)(struct memory *), (*c)(struct memory *);
+    uint64_t times, rounds, answer;
 } jobs[] = {
-    {"read a block of 450 days", nothing, library_read, c_read},
-    {"file it in an empty ledger", empty_ledger, library_file, c_file},
-    {"file it again", nothing, library_file, c_file},
-    {"summary of a day", nothing, library_summary, c_summary},
+    {"read a block of 450 days", nothing, library_read, c_read, 1, 400, DAYS},
+    {"file it in an empty ledger", empty_ledger, library_file, c_file, 1, 400, 48 * (DAYS - 1) + 30},
+    {"file it again", nothing, library_file, c_file, 1, 400, 0},
+    {"summary of a day", nothing, library_summary, c_summary, 1, 400, 0},
+    {"a Count", nothing, library_counts, c_counts, COUNTS, 100, COUNTS},
+    {"a Clock over one boundary", nothing, library_clocks, c_clocks, CLOCKS, 100, (uint64_t)CLOCKS * HALF_HOUR},
+    {"a Clock over a year", nothing, library_years, c_years, YEARS, 20, (uint64_t)YEARS * YEAR},
+    {"a Clock over a century", nothing, library_century, c_century, 1, 20, CENTURY},
+    {"a read of 450 days", nothing, library_reads, c_reads, READS, 50, (uint64_t)READS * BLOCK},
 };
 
-static uint64_t once(void (*before)(void), uint64_t (*job)(void), uint64_t *answer) {
-    before();
+static uint64_t once(void (*before)(struct memory *), uint64_t (*job)(struct memory *), struct memory *m, uint64_t *answer) {
+    before(m);
     uint64_t began = nanoseconds();
-    *answer = job();
+    *answer = job(m);
     return nanoseconds() - began;
 }
 
@@ -60,17 +92,17 @@ int main(void) {
     printf("| Job | Library, ns | Plain C, ns | Ratio |\n|---|---|---|---|\n");
     for (size_t i = 0; i < sizeof jobs / sizeof *jobs; i++) {
         uint64_t library = UINT64_MAX, c = UINT64_MAX, answer, c_answer;
-        for (int round = 0; round < ROUNDS; round++) {
-            uint64_t t = once(jobs[i].before, jobs[i].library, &answer);
+        for (uint64_t round = 0; round < jobs[i].rounds; round++) {
+            uint64_t t = once(jobs[i].before, jobs[i].library, &ours, &answer);
             library = t < library ? t : library;
-            t = once(jobs[i].before, jobs[i].c, &c_answer);
+            t = once(jobs[i].before, jobs[i].c, &theirs, &c_answer);
             c = t < c ? t : c;
-            if (answer != c_answer || COP6_ANSWER(answer) != COP6_DONE) {
-                printf("%s: answers %" PRIx64 " and %" PRIx64 "\n", jobs[i].name, answer, c_answer);
+            if (answer != jobs[i].answer || c_answer != answer || memcmp(&ours, &theirs, sizeof ours) != 0) {
+                printf("%s: answers %" PRIx64 " and %" PRIx64 ", or other bytes\n", jobs[i].name, answer, c_answer);
                 return 1;
             }
         }
-        printf("| %s | %" PRIu64 " | %" PRIu64 " | %.2f |\n", jobs[i].name, library, c, (double)library / (double)c);
+        printf("| %s | %" PRIu64 " | %" PRIu64 " | %.2f |\n", jobs[i].name, library / jobs[i].times, c / jobs[i].times, (double)library / (double)c);
     }
     return 0;
 }

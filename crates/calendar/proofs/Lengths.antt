@@ -1,13 +1,13 @@
 -- Lengths of years and months: how long they are at most, and what the days before one come to.
 -- Assumes nothing.
-use mathlib.Core.Path.{_≡_, refl, sym}
+use mathlib.Core.Path.{_≡_, refl, sym, ap, _∙_}
 use mathlib.Core.Bool.{Bool}
 use mathlib.Core.List.{List, [], _∷_}
-use Prim.Native.Nat.{ℕ, zero, suc, _+_, _%_, _≤_}
+use Prim.Native.Nat.{ℕ, zero, suc, _+_, _-_, _*_, _/_, _%_, _≤_, _<_}
 use native.Mathlib.Omega.{arith}
 use native.Mathlib.Decide.{decLt, ℕ-discrete}
-use borrow.Author.Tests.{eq-eqb, ne-eqb, leb-true}
-use lib.Dec.{leb}
+use borrow.Author.Tests.{eq-eqb, ne-eqb, eqb-true, leb-true}
+use lib.Dec.{leb, eqb}
 use lib.ListN.{getD, List·getD-eq-default}
 use Rattle.laws.specs.Tests.{allBelow, sumBelow}
 use Rattle.laws.proofs.Split.{by-dec}
@@ -79,3 +79,57 @@ all-years = refl
 pub all-months : (yy : ℕ) → sumBelow (monthLength yy) 12 ≡ yearLength yy
 unfolding sumBelow yearLength months monthLength
 all-months yy = omega arith
+
+-- the days before a year: one more for each leap year
+pub years-before : (yy : ℕ) → 365 * yy + (yy + 3) / 4 ≡ sumBelow yearLength yy
+unfolding sumBelow yearLength
+years-before zero = refl
+years-before (suc y) =
+    by-dec (ℕ-discrete (y % 4) 0)
+    (λ h. omega (arith, years-before y, leap-yes y h))
+    (λ h. omega (arith, years-before y, leap-no y h))
+
+abbrev before : List ℕ
+before = 0 ∷ 31 ∷ 59 ∷ 90 ∷ 120 ∷ 151 ∷ 181 ∷ 212 ∷ 243 ∷ 273 ∷ 304 ∷ 334 ∷ []
+
+-- the days before a month: those of the common year, and the leap day from March on
+common-before : ℕ → Bool
+common-before i = eqb (getD before i 0) (sumBelow (months 0) i)
+
+before-is : (i : ℕ) → i < 12 → getD before i 0 ≡ sumBelow (months 0) i
+unfolding common-before allBelow sumBelow months
+before-is i h = eqb-true (getD before i 0) (sumBelow (months 0) i) (all-at common-before 12 refl i h)
+
+low-before : ℕ → Bool
+low-before i = leb (getD before i 0) 334
+
+before-le : (i : ℕ) → i < 12 → getD before i 0 ≤ 334
+unfolding low-before allBelow
+before-le i h = leb-true (getD before i 0) 334 (all-at low-before 12 refl i h)
+
+pub before-few : (i : ℕ) → i < 12 → getD before i 0 ≤ 341
+before-few i h = omega (arith, before-le i h)
+
+pub from-few : (i l : ℕ) → i < 12 → l ≤ 1 → getD before i 0 + l ≤ 341
+from-few i l h e = omega (arith, before-le i h)
+
+pub from-fits : (i l : ℕ) → i < 12 → l ≤ 1 → getD before i 0 + l < 4294967296
+from-fits i l h e = omega (arith, before-le i h)
+
+pub before-march : (yy i : ℕ) → i < 2 → getD before i 0 ≡ sumBelow (monthLength yy) i
+unfolding sumBelow months monthLength
+before-march yy zero h = refl
+before-march yy (suc zero) h = refl
+before-march yy (suc (suc i)) h = absurd (omega arith)
+
+later : (l k : ℕ) → sumBelow (months 0) (suc (suc k)) + l ≡ sumBelow (months l) (suc (suc k))
+unfolding sumBelow months
+later l zero = omega arith
+later l (suc k) = omega (arith, later l k)
+
+pub from-march : (yy i l : ℕ) → 2 ≤ i → i < 12 → l ≡ leapDay yy → getD before i 0 + l ≡ sumBelow (monthLength yy) i
+unfolding monthLength
+from-march yy i l h g e =
+    let p : i ≡ suc (suc (i - 2)) = omega arith in
+    ap (λ (n : ℕ). n + l) (before-is i g) ∙ ap (λ (j : ℕ). sumBelow (months 0) j + l) p ∙ later l (i - 2)
+    ∙ ap (λ (j : ℕ). sumBelow (months l) j) (sym p) ∙ ap (λ (m : ℕ). sumBelow (months m) i) e

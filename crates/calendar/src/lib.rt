@@ -1,5 +1,5 @@
 // Days, dates and seconds of 2000-01-01 00:00:00 to 2099-12-31 23:59:59, as numbers, as fields and as decimal digits.
-// Dates are found by a walk over years and months. Every public function has an answer for every input.
+// A day's date is found by a walk over years and months, a date's day by a formula and a table. Every public function has an answer for every input.
 ghost use mathlib.Core.Path.{_≡_};
 ghost use Prim.Native.Nat.{_+_, _*_, _<_, _≤_};
 ghost use Rattle.laws.specs.Tests.{sumBelow};
@@ -49,7 +49,10 @@ pub const TIMES_IN_ALL: u64 = 3155760000;
 
 pub const HALVES: u32 = 48;
 
+// Of the months of a common year, and the days before each of them.
 const LENGTHS: [u32; 12] = [31, 28, 31, 30, 31, 30, 31, 31, 30, 31, 30, 31];
+
+const DAYS_BEFORE: [u32; 12] = [0, 31, 59, 90, 120, 151, 181, 212, 243, 273, 304, 334];
 
 fn leap_day(yy: u32) -> u32
     ensures { λ r. ⌜ (r ≡ leapDay yy) × (r ≤ 1) ⌝ }
@@ -135,26 +138,18 @@ fn days_before_month(yy: u32, i: u32) -> u32
     requires { ⌜ i < 12 ⌝ }
     ensures { λ r. ⌜ (r ≡ sumBelow (monthLength yy) i) × (r ≤ 341) ⌝ }
 {
-    let mut k: u32 = 0;
-    let mut d: u32 = 0;
-    while k < i {
-        d += month_length(yy, k as usize);
-        k += 1;
+    let common = DAYS_BEFORE[i as usize];
+    if i < 2 {
+        return common;
     }
-    d
+    common + leap_day(yy)
 }
 
 fn days_before_year(yy: u32) -> u32
     requires { ⌜ yy < 100 ⌝ }
     ensures { λ r. ⌜ (r ≡ sumBelow yearLength yy) × (r ≤ 36234) ⌝ }
 {
-    let mut y: u32 = 0;
-    let mut d: u32 = 0;
-    while y < yy {
-        d += year_length(y);
-        y += 1;
-    }
-    d
+    365 * yy + (yy + 3) / 4
 }
 
 // The day number of a date.

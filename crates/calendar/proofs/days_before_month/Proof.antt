@@ -1,54 +1,27 @@
-use mathlib.Core.Path.{_≡_}
-use Prim.Native.Nat.{_-_, _*_, _≤_}
-use native.Mathlib.Omega.{arith}
-use Rattle.laws.specs.Tests.{sumBelow}
-use Rattle.laws.proofs.Tests.{sum-none, sum-turn, sum-end}
-use Rattle.calendar.specs.Calendar.{monthLength}
+use Rattle.calendar.proofs.Lengths.{before-march, before-few, from-march, from-fits, from-few}
 use borrow.Author.Needs.{needs}
 use Rattle.calendar.proofs.days_before_month.Statement.{statement}
 use Rattle.calendar.proofs.days_before_month.Tie as tie
 
-abbrev Inv-loop : tie.InvT-loop
-Inv-loop yy i k₀ d₀ k d = (k ≤ i) × (d ≡ sumBelow (monthLength yy) k) × (d ≤ 31 * k)
+mul-common : tie.Need-mul-common
+mul-common c = search needs
 
-abbrev μ-loop : tie.MeasureT-loop
-μ-loop yy i k₀ d₀ k d = i - k
+array-read-common : tie.Need-array-read-common
+array-read-common c = search needs
 
-loop-holds : tie.Need-loop-holds Inv-loop μ-loop
-loop-holds c = (omega arith, search sum-none, omega arith)
+returns : tie.Need-returns
+returns c = (search before-march, search before-few)
 
-cast-month-length : tie.Need-cast-month-length Inv-loop μ-loop
-cast-month-length c = search needs
+leap-day-requires : tie.Need-leap-day-requires
+leap-day-requires c κs = search needs
 
-month-length-requires : tie.Need-month-length-requires Inv-loop μ-loop
-month-length-requires c κs = search needs
+add-result : tie.Need-add-result
+add-result c = search from-fits
 
-add-d : tie.Need-add-d Inv-loop μ-loop
-add-d c = search needs
-
-add-k : tie.Need-add-k Inv-loop μ-loop
-add-k c = search needs
-
-loop-less : tie.Need-loop-less Inv-loop μ-loop
-loop-less c = search needs
-
-loop-again : tie.Need-loop-again Inv-loop μ-loop
-loop-again c = (omega arith, search sum-turn, omega arith)
-
-returns : tie.Need-returns Inv-loop μ-loop
-returns c = (search sum-end, omega arith)
+returns-2 : tie.Need-returns-2
+returns-2 c = (search from-march, search from-few)
 
 pub days-before-month-spec : {M : Type 1} → statement M
 days-before-month-spec =
     tie.close
-    (tie.spec
-    Inv-loop
-    μ-loop
-    loop-holds
-    cast-month-length
-    month-length-requires
-    add-d
-    add-k
-    loop-less
-    loop-again
-    returns)
+    (tie.spec mul-common array-read-common returns leap-day-requires add-result returns-2)

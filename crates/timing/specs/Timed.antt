@@ -1,0 +1,66 @@
+-- What the loops that are timed do: set-up with fixed values, then events one after another, each handing its recorder and store to the next.
+use Prim.Native.Nat.{ℕ, _+_, _*_}
+use mathlib.Core.List.{List, [], _∷_}
+use Rattle.laws.specs.Each.{forTo}
+use Rattle.quantity.specs.Units.{wattHours}
+use Rattle.store.specs.declared.Class.the-variants.{D}
+use Rattle.store.specs.Store.{Store}
+use Rattle.recorder.specs.declared.SetUp.{SetUp}
+use Rattle.recorder.specs.declared.Event.the-variants.{Count, Clock}
+use Rattle.recorder.specs.Recorder.{Mem}
+use Rattle.recorder.specs.Step.{step}
+use Rattle.recorder.specs.SetUp.{given, setUp}
+use Rattle.readout.specs.Read.{ReadDone, readBack}
+
+-- class d, 1 Wh a pulse, at 2000-01-01 00:00:00, all at zero
+abbrev pub meter : SetUp
+meter = given (65 ∷ 66 ∷ 67 ∷ 88 ∷ 50 ∷ 52 ∷ 48 ∷ 48 ∷ 48 ∷ 48 ∷ 49 ∷ 55 ∷ []) D (wattHours 1) 0 (wattHours 0) 0
+
+unfoldable pub begun : Store → Mem
+begun s = setUp meter s .after
+
+-- the counter goes on by one pulse each time
+unfoldable pub counting : ℕ → Mem → Mem
+counting i x = step x (Count (i + 1)) .after
+
+unfoldable pub counted : ℕ → Store → Mem
+counted n s = forTo counting 0 n (begun s)
+
+-- the time goes on by so many seconds each time
+unfoldable pub clocking : ℕ → ℕ → Mem → Mem
+clocking by i x = step x (Clock (by * (i + 1))) .after
+
+unfoldable pub clocked : ℕ → ℕ → Store → Mem
+clocked by n s = forTo (clocking by) 0 n (begun s)
+
+-- what is answered, the total or the time, beside the store
+pub record Totalled : Type 0 where
+  pub answer : ℕ
+  pub store : Store
+
+abbrev pub totalled : ℕ → Store → Totalled
+totalled answer s = record { answer = answer; store = s }
+
+abbrev pub totalOf : Mem → Totalled
+totalOf x = totalled (x .recorder .energy .total .0) (x .store)
+
+abbrev pub timeOf : Mem → Totalled
+timeOf x = totalled (x .recorder .clock .time) (x .store)
+
+-- a full store: 449 days and 01:10 later
+unfoldable pub stored : Store → Mem
+stored s = step (begun s) (Clock 38797800) .after
+
+-- reads of 450 days: the output, and the bytes carried, added up
+pub record Reads : Type 0 where
+  pub out : List ℕ
+  pub bytes : ℕ
+
+abbrev pub reads : List ℕ → ℕ → Reads
+reads out bytes = record { out = out; bytes = bytes }
+
+unfoldable pub reading : Mem → ℕ → Reads → Reads
+reading x i y = let d = readBack 450 x (y .out) in reads (d .out) (y .bytes + d .handed .carried)
+
+unfoldable pub readsOf : ℕ → Mem → List ℕ → Reads
+readsOf n x out = forTo (reading x) 0 n (reads out 0)
