@@ -32,7 +32,7 @@ use Rattle.ledger.specs.Layout.{lengthOf, firstOf, daysOf}
 use Rattle.ledger.specs.Rooms.{slot, pack}
 use Rattle.ledger.specs.Judged.{ledgerChecks, judged}
 use Rattle.ledger.specs.Open.{headOf, openOk, openChecks, openAnswer, openOf}
-use Rattle.ledger.specs.Asked.{inWindow, asked, dayMissing, missingOf}
+use Rattle.ledger.specs.Asked.{inWindow, asked, daySummary, summaryOf, dayMissing, missingOf}
 use Rattle.ledger.proofs.Packed.{fit-of, first-packed, days-packed}
 use Rattle.ledger.proofs.Good.{pack-good}
 use Rattle.ledger.proofs.Opening.{opens-of, head-good, count-good}
@@ -52,12 +52,13 @@ use Rattle.assurance.specs.Paper.{Counts, Paper, totalAt, unitsOf, histo
 use Rattle.assurance.specs.Written.{written, blankPaper, writtenAll, paper}
 use Rattle.assurance.specs.Sent.{daysDue, fieldsDue}
 use Rattle.assurance.specs.Run.{Call, eventsOf, blocksIn}
-use Rattle.assurance.specs.Delivered.{answersAll, carriedAll, heldOn, past, counted, Drawn, opened, filed, DayTold, HalfTold, DayHeld, Holds}
+use Rattle.assurance.specs.Delivered.{answersAll, carriedAll, heldOn, past, counted, Drawn, Summed, opened, filed, DayTold, HalfTold, DayHeld, Holds}
 use Rattle.assurance.proofs.Kept.{Given, Kept}
 use Rattle.assurance.proofs.Start.{given, made-kept}
 use Rattle.assurance.proofs.Run.{kept, run-kept}
 use Rattle.assurance.proofs.Past.{Past, past-all}
 use Rattle.assurance.proofs.Life.{total-is}
+use Rattle.assurance.proofs.Summed.{summed}
 use Rattle.assurance.proofs.Reading.{block-reads}
 use Rattle.assurance.proofs.Honest.{ident-due, honest}
 use Rattle.assurance.proofs.Blocks.{SentAfter, sent-after}
@@ -242,6 +243,10 @@ module _ (s : SetUp) (x : Store) (cs : List Call) (accepted : setUp s x .answer 
     unfolding missingOf
     missing-is i j = let at : first + i - first ≡ i = omega arith in rw (asked-is i j, first-is, at)
 
+    summary-is : (i : ℕ) → i < days → summaryOf (filed s x cs l first days bs) (first + i) ≡ daySummary (slot (filed s x cs l first days bs) i)
+    unfolding summaryOf
+    summary-is i j = let at : first + i - first ≡ i = omega arith in rw (asked-is i j, first-is, at)
+
     -- ---- each day
 
     told-day : (i : ℕ) → i < days → told.Told D h bs (first + i) (slot (filed s x cs l first days bs) i)
@@ -285,6 +290,11 @@ module _ (s : SetUp) (x : Store) (cs : List Call) (accepted : setUp s x .answer 
           lack = lacks (count y) (HalfTold s x cs l first days bs (first + i)) (t .room) half;
         }
 
+    day-summed : (i : ℕ) → i < days → Summed h (first + i) (heldOn (filed s x cs l first days bs) (first + i)) (summaryOf (filed s x cs l first days bs) (first + i))
+    day-summed i j =
+        let t = told-day i j in
+        rw (summary-is i j, held-at i j) (summed h (first + i) (slot (filed s x cs l first days bs) i) (t .room) (t .start) (t .value))
+
     -- ---- the energy
 
     abbrev c : Counts
@@ -321,6 +331,7 @@ module _ (s : SetUp) (x : Store) (cs : List Call) (accepted : setUp s x .answer 
     holds = record {
       answers = λ a i. answers-well hd (opened s x cs l first days bs) bs refused-none a i;
       day = day-held;
+      summary = day-summed;
       newly =
           carried-newly hd (opened s x cs l first days bs) bs refused-none
           ∙ ap (λ (m : List ℕ). desk.run D m bs .newly) fresh-is

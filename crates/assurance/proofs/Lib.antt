@@ -18,6 +18,7 @@ pub mod Life
 pub mod Reading
 pub mod Honest
 pub mod Blocks
+pub mod Summed
 pub mod Delivered
 pub mod Causes
 pub mod Demands

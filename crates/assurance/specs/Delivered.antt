@@ -5,18 +5,21 @@ use mathlib.Core.Path.{_≡_}
 use mathlib.Core.Logic.{_↔_}
 use mathlib.Core.Bool.{true, cond}
 use mathlib.Core.List.{List, [], _∷_, List·Memᴰ}
+use Rattle.laws.specs.Bits.{bit}
 use Rattle.laws.specs.Tests.{sumBelow}
 use Rattle.quantity.specs.Units.{unitOf}
 use Rattle.calendar.specs.Clock.{halvesOfDay, endedOn}
 use Rattle.block.specs.declared.Answer.{Answer}
+use Rattle.profile.specs.Profile.{advanceAt}
 use Rattle.days.specs.Day.{History, Day, absent, isHeld, startOf, flagsOf, halfAt, count}
 use Rattle.days.specs.View.{Carries}
 use Rattle.days.specs.Energy.{advances, Unbroken}
 use Rattle.ledger.specs.declared.MissingAnswer.{MissingAnswer}
+use Rattle.ledger.specs.declared.SummaryAnswer.{SummaryAnswer}
 use Rattle.ledger.specs.Layout.{firstOf}
 use Rattle.ledger.specs.Rooms.{slot}
 use Rattle.ledger.specs.Open.{openOf}
-use Rattle.ledger.specs.Asked.{inWindow, missingOf}
+use Rattle.ledger.specs.Asked.{inWindow, summaryOf, missingOf}
 use Rattle.rooms.specs.View.{viewOf}
 use Rattle.filing.specs.File.{fileOf}
 use Rattle.kept.specs.Desk.{fileAll}
@@ -40,6 +43,16 @@ carriedAll (a ∷ rest) = a .carried + carriedAll rest
 -- day d as a ledger holds it: absent outside its window
 unfoldable pub heldOn : List ℕ → ℕ → Day
 heldOn l d = cond (inWindow l d) (slot l (d - firstOf l)) absent
+
+-- the summary u of day d, which is held as y: of its half-hours held the summed advance and the marks are the history's
+pub record Summed (h : History) (d : ℕ) (y : Day) (u : SummaryAnswer) : Type 0 where
+  pub answer : u .answer ≡ 0
+  pub is-held : u .held ≡ isHeld y
+  pub halves : u .count ≡ count y
+  pub begins : u .start .0 ≡ startOf y
+  pub advance : u .advance .0 ≡ sumBelow (advanceAt (h .start d) (λ j. h .half d j .value)) (count y)
+  pub reverse : u .reverse ≡ sumBelow (λ j. bit (h .half d j .reverse)) (count y)
+  pub level2 : u .level2 ≡ sumBelow (λ j. bit (h .half d j .level2)) (count y)
 
 module _ (s : SetUp) (x : Store) (cs : List Call) where
   abbrev pub past : History
@@ -84,6 +97,7 @@ module _ (s : SetUp) (x : Store) (cs : List Call) where
       pub answers : (a : Answer) → List·Memᴰ a (answersAll opened bs) → a .number ≡ 0
       -- each day of the window
       pub day : (i : ℕ) → i < days → DayHeld (first + i) (heldOn filed (first + i)) (missingOf filed (first + i))
+      pub summary : (i : ℕ) → i < days → Summed past (first + i) (heldOn filed (first + i)) (summaryOf filed (first + i))
       -- what was newly held is what is held
       pub newly : carriedAll (answersAll opened bs) ≡ sumBelow (λ i. count (heldOn filed (first + i))) days
       -- the same blocks in another order, with other repeats, in another fresh ledger: the same bytes

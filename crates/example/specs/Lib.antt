@@ -1,1 +1,2 @@
+-- One life worked through.
 pub mod Example

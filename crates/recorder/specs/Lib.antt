@@ -1,7 +1,9 @@
+-- The recorder beside its store: ranges, boundaries, what each event does, what it is refused for, set-up, and document 01's cases.
 pub mod Recorder
 pub mod Range
 pub mod Boundary
 pub mod Effect
+pub mod Cause
 pub mod Answer
 pub mod Step
 pub mod SetUp

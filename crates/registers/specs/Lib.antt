@@ -1,3 +1,4 @@
+-- The recorder's fields in their groups: the present, energy, demand.
 pub mod Present
 pub mod Energy
 pub mod Demand

@@ -1,0 +1,64 @@
+-- What an event is refused for, of a recorder that is good (document 01, "Answer numbers"): 1, 6, 2 and 3, each by the event and what the recorder has.
+use Prim.Native.Nat.{ℕ}
+use mathlib.Core.Bool.{Bool, true, false, not, cond, _&&_}
+use lib.Dec.{ltb, leb}
+use Rattle.registers.specs.Energy.{rateOk}
+use Rattle.calendar.specs.Clock.{timesInAll}
+use Rattle.recorder.specs.Recorder.{Event, Count, Clock, Off, On, Access, Meter, Reset, Rate, Reverse}
+
+-- 1: On while on, any other event while off
+abbrev pub isOn : Event → Bool
+isOn (Count c) = false
+isOn (Clock t) = false
+isOn Off = false
+isOn (On t) = true
+isOn Access = false
+isOn (Meter c) = false
+isOn Reset = false
+isOn (Rate n) = false
+isOn Reverse = false
+
+unfoldable pub wrongPower : Bool → Event → Bool
+wrongPower on e = cond (isOn e) on (not on)
+
+-- 6: a rate that is none of 1 to 8
+abbrev pub badRate : Event → Bool
+badRate (Count c) = false
+badRate (Clock t) = false
+badRate Off = false
+badRate (On t) = false
+badRate Access = false
+badRate (Meter c) = false
+badRate Reset = false
+badRate (Rate n) = not (rateOk n)
+badRate Reverse = false
+
+-- 2: a time before the present one or past 2099
+abbrev pub inTime : ℕ → ℕ → Bool
+inTime now t = leb now t && ltb t timesInAll
+
+abbrev pub badTime : ℕ → Event → Bool
+badTime now (Count c) = false
+badTime now (Clock t) = not (inTime now t)
+badTime now Off = false
+badTime now (On t) = not (inTime now t)
+badTime now Access = false
+badTime now (Meter c) = false
+badTime now Reset = false
+badTime now (Rate n) = false
+badTime now Reverse = false
+
+-- 3: the running half-hour's units would pass 9,999
+abbrev pub mostUnits : ℕ
+mostUnits = 9999
+
+abbrev pub tooMuch : (ℕ → ℕ) → Event → Bool
+tooMuch units (Count c) = ltb mostUnits (units c)
+tooMuch units (Clock t) = false
+tooMuch units Off = false
+tooMuch units (On t) = false
+tooMuch units Access = false
+tooMuch units (Meter c) = false
+tooMuch units Reset = false
+tooMuch units (Rate n) = false
+tooMuch units Reverse = false
