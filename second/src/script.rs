@@ -409,11 +409,11 @@ impl Player {
             [b"kwh", n] => given.kwh = number_32_bits(n)?,
             [b"current", n] => given.current = number_32_bits(n)?,
             [b"previous", n] => given.previous = number_32_bits(n)?,
-            [b"cumulative", n] => given.cumulative = number_32_bits(n)?,
+            [b"summed", n] => given.cumulative = number_32_bits(n)?,
             [b"reset", n] => given.reset = number_32_bits(n)?,
             [b"resets", n] => given.resets = number_32_bits(n)?,
             [b"days", n] => given.days = number_32_bits(n)?,
-            [b"identifier", i, n] => {
+            [b"letter", i, n] => {
                 let n = number_u8(n)?;
                 *given.identifier.get_mut(number_below(i, identifier::LENGTH)?)? = n;
             }
@@ -475,13 +475,13 @@ impl Player {
             [b"rate", n] => r.rate = number_32_bits(n)?,
             [b"current", n] => r.current = number_32_bits(n)?,
             [b"previous", n] => r.previous = number_32_bits(n)?,
-            [b"cumulative", n] => r.cumulative = number_32_bits(n)?,
+            [b"summed", n] => r.cumulative = number_32_bits(n)?,
             [b"reset", n] => r.reset = number_32_bits(n)?,
             [b"resets", n] => r.resets = number_32_bits(n)?,
             [b"base", n] => r.base = number_32_bits(n)?,
             [b"reverse", n] => r.reverse = yes_or_no(n)?,
             [b"level2", n] => r.level2 = yes_or_no(n)?,
-            [b"identifier", i, n] => {
+            [b"letter", i, n] => {
                 let n = number_u8(n)?;
                 *r.identifier.get_mut(number_below(i, identifier::LENGTH)?)? = n;
             }

@@ -7,6 +7,7 @@ use native.Mathlib.Nat.{mod-mod, mod-lt}
 use native.Mathlib.Omega.{arith}
 use lib.ListN.{length}
 use borrow.Author.Tests.{eq-eqb, ne-eqb}
+use Rattle.laws.proofs.Round.{round-less}
 use Rattle.store.specs.Class.{rightLengths}
 use Rattle.registers.specs.Energy.{addedOf, unitsWith}
 use Rattle.recorder.specs.declared.SetUp.{SetUp}
@@ -25,9 +26,6 @@ use Rattle.assurance.proofs.Kept.{Given, Kept, capOf, cap-is}
 use Rattle.assurance.proofs.Marking.{largest-le}
 
 -- the units of the running half-hour, in registers that run round and on paper
-round-of : (x y : ℕ) → y ≤ x → x - y ≤ 9999 → (x % 100000000 + 100000000 - y % 100000000) % 100000000 ≡ x - y
-round-of x y up slow = omega arith
-
 more-of : (t w x : ℕ) → t ≡ x % 1000000000 → (t + w) / 10 - t / 10 ≡ (x + w) / 10 - x / 10
 more-of t w x e = omega arith
 
@@ -40,7 +38,7 @@ sum-of x y w l = omega arith
 units-same : (t b w x y : ℕ) → t ≡ x % 1000000000 → b ≡ y / 10 % 100000000 → y ≤ x → x / 10 - y / 10 ≤ 9999
     → (t / 10 % 100000000 + 100000000 - b % 100000000) % 100000000 + ((t + w) / 10 - t / 10) ≡ (x + w) / 10 - y / 10
 units-same t b w x y et eb up slow =
-    rw (more-of t w x et, low-of t x et, eb, mod-mod (y / 10) 100000000, round-of (x / 10) (y / 10) (omega arith) slow) (sum-of x y w up)
+    rw (more-of t w x et, low-of t x et, eb, mod-mod (y / 10) 100000000, round-less 100000000 (x / 10) (y / 10) (omega arith) (omega arith)) (sum-of x y w up)
 
 slow-at : (s : SetUp) (p : Paper) (x : Mem) → Kept s p x → totalAt s (p .tape .counts) (suc (now p)) / 10 - totalAt s (p .tape .counts) (now p) / 10 ≤ 9999
 unfolding unitsOf

@@ -14,7 +14,6 @@ use Rattle.laws.proofs.Split.{by-test}
 use Rattle.block.specs.Answers.{answer}
 use Rattle.block.specs.Layout.{blockBytes}
 use Rattle.reader.proofs.Answers.{parsed-is}
-use Rattle.writer.specs.Send.{sent}
 use Rattle.recorder.specs.declared.SetUp.{SetUp}
 use Rattle.recorder.specs.declared.Event.{Event}
 use Rattle.recorder.specs.Recorder.{Mem}

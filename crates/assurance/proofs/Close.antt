@@ -10,6 +10,7 @@ use native.Mathlib.Omega.{arith}
 use lib.Dec.{eqb}
 use lib.ListN.{getD}
 use borrow.Author.Tests.{eqb-true, eqb-false}
+use Rattle.laws.proofs.Round.{round-less}
 use Rattle.laws.proofs.Ring.{ring-apart}
 use Rattle.laws.proofs.Split.{by-dec, by-test}
 use Rattle.quantity.specs.Units.{lastFour, advance}
@@ -25,11 +26,8 @@ use Rattle.assurance.proofs.Kept.{Stored, EnergyKept, DemandKept, Runni
 use Rattle.assurance.proofs.Rooms.{closed-values, closed-marks, closed-flags, opened-values, opened-marks, opened-flags, new-values, new-marks, new-flags}
 
 -- the difference modulo 10,000 is the units passed, if they are at most 9,999
-round-of : (x y : ℕ) → y ≤ x → x - y ≤ 9999 → (x % 10000 + 10000 - y % 10000) % 10000 ≡ x - y
-round-of x y up slow = omega arith
-
 pub advance-of : (a b x y : ℕ) → a ≡ x % 10000 → b ≡ y % 10000 → y ≤ x → x - y ≤ 9999 → advance b a ≡ x - y
-advance-of a b x y p q up slow = rw (p, q, mod-mod x 10000, mod-mod y 10000) (round-of x y up slow)
+advance-of a b x y p q up slow = rw (p, q, mod-mod x 10000, mod-mod y 10000) (round-less 10000 x y up (omega arith))
 
 -- the largest takes one more
 largest-on : (f : ℕ → ℕ) (from q : ℕ) → from ≤ q → largest f from (suc q - from) ≡ max (largest f from (q - from)) (f q)

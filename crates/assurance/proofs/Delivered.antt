@@ -12,6 +12,7 @@ use lib.ListN.{length}
 use borrow.Author.Tests.{eqb-true, eq-eqb, le-leb, lt-ltb, not-false}
 use Rattle.laws.specs.Checks.{check}
 use Rattle.laws.specs.Tests.{sumBelow}
+use Rattle.laws.proofs.Bools.{iff-trans}
 use Rattle.laws.proofs.Checks.{none-fails, passed-first}
 use Rattle.laws.proofs.Split.{by-test, by-dec}
 use Rattle.laws.proofs.Tests.{sum-same}
@@ -56,7 +57,7 @@ use Rattle.assurance.proofs.Kept.{Given, Kept}
 use Rattle.assurance.proofs.Start.{given, made-kept}
 use Rattle.assurance.proofs.Run.{kept, run-kept}
 use Rattle.assurance.proofs.Past.{Past, past-all}
-use Rattle.assurance.proofs.Life.{iff-trans, total-is}
+use Rattle.assurance.proofs.Life.{total-is}
 use Rattle.assurance.proofs.Reading.{block-reads}
 use Rattle.assurance.proofs.Honest.{ident-due, honest}
 use Rattle.assurance.proofs.Blocks.{SentAfter, sent-after}

@@ -5,7 +5,6 @@ use mathlib.Core.Path.{_≡_, refl, ap, _∙_}
 use mathlib.Core.List.{List}
 use lib.Dec.{eqb}
 use lib.ListN.{length, take}
-use borrow.Author.Tests.{ne-eqb}
 use Rattle.laws.proofs.Split.{by-test}
 use Rattle.block.specs.declared.Answer.{Answer}
 use Rattle.block.specs.declared.Header.{Header}
@@ -19,12 +18,12 @@ use Rattle.writer.proofs.Sent.{refused-keeps, sent-bytes, sent-reads}
 use Rattle.ledger.specs.Open.{openAnswer, openOf}
 use Rattle.kept.proofs.Stays.{refused-same}
 use Rattle.store.specs.Store.{Store}
+use Rattle.recorder.proofs.Kept.{refused, set-up-blank, blank-refused}
 use Rattle.recorder.specs.declared.SetUp.{SetUp}
 use Rattle.recorder.specs.declared.Event.{Event}
 use Rattle.recorder.specs.Recorder.{Mem}
-use Rattle.recorder.specs.Answer.{answerWith, answerOf}
-use Rattle.recorder.specs.Step.{step, run}
-use Rattle.recorder.specs.SetUp.{setUpAnswer, started, blank, setUp}
+use Rattle.recorder.specs.Step.{run}
+use Rattle.recorder.specs.SetUp.{started, blank, setUp}
 use Rattle.readout.specs.Read.{headerSent, daysSent, sourceSent, readAnswer, readOf}
 use Rattle.assurance.specs.Written.{paper}
 use Rattle.assurance.specs.Sent.{daysDue, fieldsDue, blockDue, sentDue}
@@ -38,10 +37,6 @@ use Rattle.assurance.proofs.Blocks.{run-events}
 use Rattle.assurance.proofs.Delivered.{holds}
 
 -- ---- demand 1
-
-step-refused : (x : Mem) (e : Event) → (step x e .answer ≡ 0 → ⊥) → step x e .after ≡ x
-unfolding step
-step-refused x e n = rw (ne-eqb (answerOf x e) 0 n)
 
 read-refused : (asked : ℕ) (x : Mem) (out : List ℕ) → (readOf asked x out .answer .number ≡ 0 → ⊥) → readOf asked x out .out ≡ out
 unfolding readOf
@@ -59,27 +54,19 @@ open-refused l id first days n =
     (λ t. absurd (n (rw t)))
     (λ t. rw t)
 
-set-up-refused : (s : SetUp) (x : Store) → (setUp s x .answer ≡ 0 → ⊥) → setUp s x .after ≡ record { recorder = blank; store = x }
-unfolding setUp
-set-up-refused s x n = rw (ne-eqb (setUpAnswer s x) 0 n)
-
-blank-step : (x : Store) (e : Event) → step (record { recorder = blank; store = x }) e .answer ≡ 5
-unfolding step answerOf answerWith blank started
-blank-step x e = refl
-
 blank-read : (asked : ℕ) (x : Store) (out : List ℕ) → readOf asked (record { recorder = blank; store = x }) out .answer .number ≡ 5
 unfolding readOf readAnswer blank started
 blank-read asked x out = refl
 
 pub demand-1 : Demand1
 demand-1 = record {
-  steps = step-refused;
+  steps = refused;
   reads = read-refused;
   writes = λ h n v s m out f. refused-keeps h n (lent n) v s m out f;
   opens = open-refused;
   files = refused-same;
-  set-up = set-up-refused;
-  blank-step = blank-step;
+  set-up = set-up-blank;
+  blank-step = blank-refused;
   blank-read = blank-read;
 }
 

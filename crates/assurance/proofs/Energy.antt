@@ -1,10 +1,9 @@
 -- What is counted: the paper's totals are those of the accepted Counts before each half-hour, and the eight rate registers share all of it.
 -- Assumes nothing.
-use Prim.Native.Nat.{ℕ, zero, suc, _+_, _-_, _%_, _<_, _≤_}
-use mathlib.Core.Path.{_≡_, refl, ap, _∙_}
+use Prim.Native.Nat.{ℕ, zero, suc, _+_, _-_, _<_, _≤_}
+use mathlib.Core.Path.{_≡_, refl}
 use mathlib.Core.Bool.{Bool, true, false, cond}
 use mathlib.Core.List.{List, [], _∷_}
-use native.Mathlib.Nat.{mod-add-mod}
 use native.Mathlib.Decide.{decLt}
 use native.Mathlib.Omega.{arith}
 use lib.Dec.{eqb, ltb}
@@ -16,7 +15,7 @@ use Rattle.recorder.specs.declared.Event.{Event}
 use Rattle.recorder.specs.declared.Event.the-variants.{Count, Clock, Off, On, Access, Meter, Reset, Rate, Reverse}
 use Rattle.recorder.specs.Recorder.{Mem}
 use Rattle.recorder.specs.Step.{step}
-use Rattle.assurance.specs.Paper.{Counts, Paper, now}
+use Rattle.assurance.specs.Paper.{Paper, now}
 use Rattle.assurance.specs.Written.{addAfter, addAt, energyOf, writes, due, written, writtenAll}
 use Rattle.assurance.specs.Meaning.{energyIn, countedIn, countedBefore}
 use Rattle.assurance.proofs.Kept.{Given, Kept}
@@ -37,26 +36,6 @@ sum-add f (suc n) i w l =
     by-dec (decLt i n)
     (λ m. rw (sum-add f n i w m, ne-eqb n i (omega arith)) (omega arith))
     (λ m. rw (sum-none f n i w (omega arith), eq-eqb n i (omega arith)) (omega arith))
-
--- of registers that run round
-pub sum-round : (f : ℕ → ℕ) (n b : ℕ) → (b + sumBelow (λ i. f i % 1000000000) n) % 1000000000 ≡ (b + sumBelow f n) % 1000000000
-unfolding sumBelow
-sum-round f zero b = refl
-sum-round f (suc n) b =
-    ap (λ (k : ℕ). k % 1000000000) first
-    ∙ mod-add-mod (f n) 1000000000 (b + sumBelow (λ i. f i % 1000000000) n)
-    ∙ ap (λ (k : ℕ). k % 1000000000) second
-    ∙ sum-round f n (b + f n)
-    ∙ ap (λ (k : ℕ). k % 1000000000) third
-  where
-    first : b + sumBelow (λ i. f i % 1000000000) (suc n) ≡ f n % 1000000000 + (b + sumBelow (λ i. f i % 1000000000) n)
-    first = omega arith
-
-    second : f n + (b + sumBelow (λ i. f i % 1000000000) n) ≡ b + f n + sumBelow (λ i. f i % 1000000000) n
-    second = omega arith
-
-    third : b + f n + sumBelow f n ≡ b + sumBelow f (suc n)
-    third = omega arith
 
 -- ---- one event, and a list
 

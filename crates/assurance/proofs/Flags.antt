@@ -1,12 +1,13 @@
 -- A day's flags in one number: each of the three taken in, each found again, and the range.
 -- Assumes nothing.
-use Prim.Native.Nat.{ℕ, _+_, _*_, _/_, _%_, _<_, _≤_}
+use Prim.Native.Nat.{ℕ, _+_, _*_, _/_, _%_, _<_}
 use mathlib.Core.Path.{_≡_, refl}
 use mathlib.Core.Logic.{_↔_}
-use mathlib.Core.Bool.{Bool, true, false, false≢true}
+use mathlib.Core.Bool.{Bool, true, false}
 use native.Mathlib.Omega.{arith}
 use lib.Bits.{bitOr}
 use Rattle.laws.specs.Bits.{bit}
+use Rattle.laws.proofs.Bits.{bit-lt, bit-is}
 use Rattle.assurance.specs.Paper.{Flags, flagsOf}
 
 abbrev three : Bool → Bool → Bool → ℕ
@@ -27,14 +28,6 @@ taken false true true = record { outage = refl; meter = refl; reset = refl; low 
 taken false true false = record { outage = refl; meter = refl; reset = refl; low = refl }
 taken false false true = record { outage = refl; meter = refl; reset = refl; low = refl }
 taken false false false = record { outage = refl; meter = refl; reset = refl; low = refl }
-
-bit-few : (a : Bool) → bit a ≤ 1
-bit-few true = omega arith
-bit-few false = omega arith
-
-bit-is : (a : Bool) (n : ℕ) → n ≡ bit a → (n ≡ 1) ↔ (a ≡ true)
-bit-is true n e = (λ h. refl, λ h. e)
-bit-is false n e = (λ h. absurd (omega arith), λ h. absurd (false≢true h))
 
 module _ (f : Flags) (d : ℕ) where
   abbrev a : Bool
@@ -60,7 +53,7 @@ module _ (f : Flags) (d : ℕ) where
 
   pub flags-few : flagsOf f d < 256
   unfolding flagsOf
-  flags-few = omega (arith, bit-few a, bit-few b, bit-few c)
+  flags-few = omega (arith, bit-lt a, bit-lt b, bit-lt c)
 
   pub flags-low : flagsOf f d % 32 ≡ 0
   unfolding flagsOf
@@ -68,12 +61,12 @@ module _ (f : Flags) (d : ℕ) where
 
   pub is-outage : (flagsOf f d / 128 % 2 ≡ 1) ↔ (f .outage d ≡ true)
   unfolding flagsOf
-  is-outage = bit-is a (flagsOf f d / 128 % 2) (omega (arith, bit-few a, bit-few b, bit-few c))
+  is-outage = bit-is a (flagsOf f d / 128 % 2) (omega (arith, bit-lt a, bit-lt b, bit-lt c))
 
   pub is-meter : (flagsOf f d / 64 % 2 ≡ 1) ↔ (f .meter d ≡ true)
   unfolding flagsOf
-  is-meter = bit-is b (flagsOf f d / 64 % 2) (omega (arith, bit-few a, bit-few b, bit-few c))
+  is-meter = bit-is b (flagsOf f d / 64 % 2) (omega (arith, bit-lt a, bit-lt b, bit-lt c))
 
   pub is-reset : (flagsOf f d / 32 % 2 ≡ 1) ↔ (f .reset d ≡ true)
   unfolding flagsOf
-  is-reset = bit-is c (flagsOf f d / 32 % 2) (omega (arith, bit-few a, bit-few b, bit-few c))
+  is-reset = bit-is c (flagsOf f d / 32 % 2) (omega (arith, bit-lt a, bit-lt b, bit-lt c))

@@ -3,24 +3,20 @@
 use Prim.Native.Nat.{ℕ, _/_, _≤_}
 use mathlib.Core.Path.{_≡_, refl, sym, ap, _∙_}
 use mathlib.Core.Logic.{_⊎_, inl, inr, ⊎-elim, _↔_}
-use mathlib.Core.Bool.{Bool, true, false, cond, _||_, _&&_, false≢true}
+use mathlib.Core.Bool.{Bool, true, false, cond, _&&_, false≢true}
 use mathlib.Core.List.{List, [], _∷_}
 use native.Mathlib.Omega.{arith}
 use lib.Dec.{eqb, leb}
 use borrow.Author.Tests.{eqb-true, eqb-false, eq-eqb, leb-true, le-leb}
-use Rattle.laws.proofs.Bools.{both, no-right}
+use Rattle.laws.proofs.Bools.{both, no-right, or-iff}
 use Rattle.laws.proofs.Split.{by-test}
 use Rattle.recorder.specs.declared.SetUp.{SetUp}
 use Rattle.recorder.specs.declared.Event.{Event}
 use Rattle.recorder.specs.declared.Event.the-variants.{Count, Clock, Off, On, Access, Meter, Reset, Rate, Reverse}
 use Rattle.recorder.specs.Answer.{eventAnswer, wrongPower, isOn}
-use Rattle.assurance.specs.Paper.{Marks, Tape, Paper, now, today}
+use Rattle.assurance.specs.Paper.{Tape, Paper, now, today}
 use Rattle.assurance.specs.Written.{markAt, markFrom, writes, due, written, blankTape, blankPaper, writtenAll, paper}
 use Rattle.assurance.specs.Meaning.{isReset, lastReset, Some, Outage, MeterOn, ResetOn, ReverseIn, Level2In}
-
-or-iff : (a b : Bool) → ((a || b) ≡ true) ↔ ((a ≡ true) ⊎ (b ≡ true))
-or-iff true b = (λ e. inl refl, λ e. refl)
-or-iff false b = (λ e. inr e, λ e. ⊎-elim (λ f. absurd (false≢true f)) (λ f. f) e)
 
 mark-iff : (at : ℕ) (f : ℕ → Bool) (q : ℕ) → (markAt at f q ≡ true) ↔ ((f q ≡ true) ⊎ (q ≡ at))
 unfolding markAt

@@ -19,7 +19,7 @@ use Rattle.block.specs.Fields.{headIn, identIn, secondsIn, startIn, flagsIn, ha
 use Rattle.judgement.specs.Given.{given}
 use Rattle.judgement.proofs.Places.{seconds-at, start-at, flags-at, half-at, reverse-at, level2-at}
 use Rattle.days.specs.Day.{History}
-use Rattle.days.specs.View.{back, Honest}
+use Rattle.days.specs.View.{Honest}
 use Rattle.rooms.specs.View.{halfOf, viewIn}
 use Rattle.recorder.specs.declared.SetUp.{SetUp}
 use Rattle.recorder.specs.Recorder.{Mem}

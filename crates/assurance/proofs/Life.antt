@@ -2,7 +2,7 @@
 -- Assumes nothing.
 use Prim.Native.Nat.{ℕ, zero, suc, _+_, _-_, _*_, _/_, _%_}
 use mathlib.Core.Path.{_≡_, refl, sym, ap, _∙_}
-use mathlib.Core.Logic.{_↔_, inl, inr}
+use mathlib.Core.Logic.{inl, inr}
 use mathlib.Core.Bool.{Bool, true, false, cond}
 use mathlib.Core.List.{List, [], _∷_}
 use native.Mathlib.Nat.{zero-add}
@@ -13,6 +13,8 @@ use lib.ListN.{getD}
 use borrow.Author.Tests.{lt-ltb, le-ltb, ne-eqb}
 use Rattle.laws.specs.Tests.{sumBelow}
 use Rattle.laws.proofs.Bits.{bit-packed}
+use Rattle.laws.proofs.Bools.{iff-trans}
+use Rattle.laws.proofs.Round.{sum-round}
 use Rattle.laws.proofs.Split.{by-dec}
 use Rattle.laws.proofs.Tests.{sum-same}
 use Rattle.profile.specs.Profile.{beforeAt, advanceAt}
@@ -35,12 +37,9 @@ use Rattle.assurance.proofs.Flags.{is-outage, is-meter, is-reset}
 use Rattle.assurance.proofs.Start.{given, made-kept}
 use Rattle.assurance.proofs.Answer.{in-range, answer-due}
 use Rattle.assurance.proofs.Run.{kept}
-use Rattle.assurance.proofs.Energy.{sum-round, before-is, rates-are, all-before}
+use Rattle.assurance.proofs.Energy.{before-is, rates-are, all-before}
 use Rattle.assurance.proofs.Happening.{outage-exactly, meter-exactly, reset-exactly, reverse-exactly, level2-exactly, since-is}
 use Rattle.assurance.proofs.Sending.{ended-reached, days-are, stored}
-
-pub iff-trans : {A B C : Type 0} → A ↔ B → B ↔ C → A ↔ C
-iff-trans f g = (λ a. g .0 (f .0 a), λ c. f .1 (g .1 c))
 
 -- a refused event counts nothing
 refused-none : (s : SetUp) (p : Paper) (e : Event) → (due s p e ≡ 0 → ⊥) → energyIn s p e ≡ 0
@@ -136,7 +135,7 @@ module _ (s : SetUp) (x : Store) (es : List Event) (accepted : setUp s x .answer
   rates-told =
       ap (λ (n : ℕ). (s .total .0 + n) % 1000000000)
       (sum-same (λ i. getD (y .recorder .energy .rates) i noEnergy .0) (λ i. c .rate i % 1000000000) 8 (k .at .energy .rates))
-      ∙ sum-round (c .rate) 8 (s .total .0)
+      ∙ sum-round 1000000000 (c .rate) 8 (s .total .0)
       ∙ ap (λ (n : ℕ). (s .total .0 + n) % 1000000000) (rates-are s z es (blankPaper s) (made s) (made-kept s z) ∙ zero-add (countedIn s (blankPaper s) es))
       ∙ sym total-told
 

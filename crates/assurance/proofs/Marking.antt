@@ -2,12 +2,13 @@
 -- Assumes nothing.
 use Prim.Native.Nat.{ℕ, zero, suc, _+_, _-_, _*_, _/_, _%_, _<_, _≤_}
 use mathlib.Core.Path.{_≡_, refl, sym, _∙_}
-use mathlib.Core.Bool.{Bool, true, false, _||_}
+use mathlib.Core.Bool.{Bool, true}
 use native.Mathlib.Decide.{decLt}
 use native.Mathlib.Omega.{arith}
 use lib.Bits.{bitOr}
 use lib.Dec.{eqb}
 use borrow.Author.Tests.{eq-eqb, ne-eqb}
+use Rattle.laws.proofs.Bools.{or-none, or-some}
 use Rattle.laws.proofs.Ring.{ring-apart}
 use Rattle.laws.proofs.Split.{by-dec}
 use Rattle.store.specs.Store.{store, flagAt}
@@ -21,14 +22,6 @@ use Rattle.assurance.specs.Written.{accessed, reversed, metered, resetOn
 use Rattle.assurance.proofs.Flags.{with-meter, with-reset}
 use Rattle.assurance.proofs.Kept.{EnergyKept, StoreKept, KeptAt, capOf, reached, cap-is, day-is}
 use Rattle.assurance.proofs.Rooms.{same-marks, flagged-marks, flagged-other, flagged-here, flagged-long}
-
-pub or-none : (a b : Bool) → b ≡ false → (a || b) ≡ a
-or-none true b e = refl
-or-none false b e = e
-
-pub or-some : (a b : Bool) → b ≡ true → (a || b) ≡ true
-or-some true b e = refl
-or-some false b e = e
 
 pub mark-other : (q : ℕ) (f : ℕ → Bool) (h : ℕ) → (h ≡ q → ⊥) → markAt q f h ≡ f h
 unfolding markAt

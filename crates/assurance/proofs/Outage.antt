@@ -11,7 +11,7 @@ use lib.Dec.{leb}
 use lib.ListN.{length, getD}
 use borrow.Author.Tests.{le-leb, lt-leb}
 use Rattle.laws.specs.Each.{forTo}
-use Rattle.laws.proofs.Bools.{no-left, no-right}
+use Rattle.laws.proofs.Bools.{no-left, no-right, or-none, or-some}
 use Rattle.laws.proofs.Loop.{for-keeps}
 use Rattle.laws.proofs.Ring.{ring-differ}
 use Rattle.laws.proofs.Split.{by-dec}
@@ -24,7 +24,6 @@ use Rattle.assurance.specs.Written.{outaged, markFrom}
 use Rattle.assurance.proofs.Flags.{with-outage}
 use Rattle.assurance.proofs.Kept.{Stored, MarksKept, StoreKept, KeptAt, capOf, firstDay, reached, cap-is, day-is}
 use Rattle.assurance.proofs.Rooms.{flagged-marks, flagged-other, flagged-here, flagged-long}
-use Rattle.assurance.proofs.Marking.{or-none, or-some}
 
 from-in : (a z : ℕ) (f : ℕ → Bool) (d : ℕ) → a ≤ d → d ≤ z → markFrom a z f d ≡ true
 unfolding markFrom

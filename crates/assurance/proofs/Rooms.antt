@@ -21,12 +21,9 @@ use Rattle.recorder.specs.declared.SetUp.{SetUp}
 use Rattle.assurance.specs.Paper.{Counts, Marks, totalAt}
 use Rattle.assurance.proofs.Kept.{Stored, ValuesKept, MarksKept, capOf, reached, ofDay}
 
--- a word of another room; another word; a word, read back
+-- a word of another room; a word, read back
 other-word : (l : List ℕ) (r e a at v : ℕ) → (r ≡ e → ⊥) → r * 3 ≤ a → a < r * 3 + 3 → e * 3 ≤ at → at < e * 3 + 3 → getD (set l at v) a 0 ≡ getD l a 0
 other-word l r e a at v ne h1 h2 h3 h4 = getD-set-other l at a v 0 (omega arith)
-
-word-set : (l : List ℕ) (a at v : ℕ) → (a ≡ at → ⊥) → getD (set l at v) a 0 ≡ getD l a 0
-word-set l a at v ne = getD-set-other l at a v 0 ne
 
 this-word : (l : List ℕ) (cap r at v : ℕ) → length l ≡ cap * 3 → r < cap → at < r * 3 + 3 → getD (set l at v) at 0 ≡ v
 this-word l cap r at v e h k = getD-set-same l at v 0 (omega arith)
@@ -77,13 +74,13 @@ module _ (s : SetUp) (q : ℕ) (x : Store) (f : Fits (capOf s) x) (a : ℕ) (b c
       let g′ = rw k′ at g in
       rw (k, ← same) record {
         reverse =
-            word-set (pushAt (x .marks) (r * 3) b) (r * 3) (r * 3 + 1) _ (omega arith)
+            getD-set-other (pushAt (x .marks) (r * 3) b) (r * 3 + 1) (r * 3) _ 0 (omega arith)
             ∙ this-word (x .marks) (capOf s) r (r * 3) _ (f .marks) (mod-lt d (f .some)) (omega arith)
             ∙ ap (λ (w : ℕ). taken w b) (g′ .reverse)
             ∙ taken-packed (q % 48) (ofDay (p .reverse) d) b (omega arith) (rw at eb);
         level2 =
             this-word (pushAt (x .marks) (r * 3) b) (capOf s) r (r * 3 + 1) _ (length-set (x .marks) (r * 3) _ ∙ f .marks) (mod-lt d (f .some)) (omega arith)
-            ∙ ap (λ (w : ℕ). taken w c) (word-set (x .marks) (r * 3 + 1) (r * 3) _ (omega arith) ∙ g′ .level2)
+            ∙ ap (λ (w : ℕ). taken w c) (getD-set-other (x .marks) (r * 3) (r * 3 + 1) _ 0 (omega arith) ∙ g′ .level2)
             ∙ taken-packed (q % 48) (ofDay (p .level2) d) c (omega arith) (rw at ec);
       })
     where
@@ -95,8 +92,8 @@ module _ (s : SetUp) (q : ℕ) (x : Store) (f : Fits (capOf s) x) (a : ℕ) (b c
   pub closed-flags : getD (y .marks) (r * 3 + 2) 0 ≡ getD (x .marks) (r * 3 + 2) 0
   unfolding closed pushAt
   closed-flags =
-      word-set (pushAt (x .marks) (e * 3) b) (r * 3 + 2) (e * 3 + 1) _ (omega arith)
-      ∙ word-set (x .marks) (r * 3 + 2) (e * 3) _ (omega arith)
+      getD-set-other (pushAt (x .marks) (e * 3) b) (e * 3 + 1) (r * 3 + 2) _ 0 (omega arith)
+      ∙ getD-set-other (x .marks) (e * 3) (r * 3 + 2) _ 0 (omega arith)
 
 -- another day is opened
 module _ (cap : ℕ) (x : Store) (e a r : ℕ) (ne : r ≡ e % cap → ⊥) where
@@ -138,11 +135,11 @@ module _ (cap : ℕ) (x : Store) (f : Fits cap x) (d a : ℕ) where
   unfolding opened packBits
   new-marks p = record {
     reverse =
-        word-set (set (set (x .marks) (o * 3) 0) (o * 3 + 1) 0) (o * 3) (o * 3 + 2) 0 (omega arith)
-        ∙ word-set (set (x .marks) (o * 3) 0) (o * 3) (o * 3 + 1) 0 (omega arith)
+        getD-set-other (set (set (x .marks) (o * 3) 0) (o * 3 + 1) 0) (o * 3 + 2) (o * 3) 0 0 (omega arith)
+        ∙ getD-set-other (set (x .marks) (o * 3) 0) (o * 3 + 1) (o * 3) 0 0 (omega arith)
         ∙ this-word (x .marks) cap o (o * 3) 0 (f .marks) (mod-lt d (f .some)) (omega arith);
     level2 =
-        word-set (set (set (x .marks) (o * 3) 0) (o * 3 + 1) 0) (o * 3 + 1) (o * 3 + 2) 0 (omega arith)
+        getD-set-other (set (set (x .marks) (o * 3) 0) (o * 3 + 1) 0) (o * 3 + 2) (o * 3 + 1) 0 0 (omega arith)
         ∙ this-word (set (x .marks) (o * 3) 0) cap o (o * 3 + 1) 0 (length-set (x .marks) (o * 3) 0 ∙ f .marks) (mod-lt d (f .some)) (omega arith);
   }
 
@@ -157,13 +154,13 @@ module _ (cap flag e : ℕ) (m : List ℕ) where
   pub flagged-marks : (p : Marks) (d k r : ℕ) → MarksKept p d k r m → MarksKept p d k r (flagAt cap flag e m)
   unfolding flagAt
   flagged-marks p d k r g = record {
-    reverse = word-set m (r * 3) (e % cap * 3 + 2) _ (omega arith) ∙ g .reverse;
-    level2 = word-set m (r * 3 + 1) (e % cap * 3 + 2) _ (omega arith) ∙ g .level2;
+    reverse = getD-set-other m (e % cap * 3 + 2) (r * 3) _ 0 (omega arith) ∙ g .reverse;
+    level2 = getD-set-other m (e % cap * 3 + 2) (r * 3 + 1) _ 0 (omega arith) ∙ g .level2;
   }
 
   pub flagged-other : (r : ℕ) → (r ≡ e % cap → ⊥) → getD (flagAt cap flag e m) (r * 3 + 2) 0 ≡ getD m (r * 3 + 2) 0
   unfolding flagAt
-  flagged-other r ne = word-set m (r * 3 + 2) (e % cap * 3 + 2) _ (omega arith)
+  flagged-other r ne = getD-set-other m (e % cap * 3 + 2) (r * 3 + 2) _ 0 (omega arith)
 
   pub flagged-here : 0 < cap → length m ≡ cap * 3 → (x : ℕ) → getD m (e % cap * 3 + 2) 0 ≡ x → getD (flagAt cap flag e m) (e % cap * 3 + 2) 0 ≡ bitOr x flag
   unfolding flagAt

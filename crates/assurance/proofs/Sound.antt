@@ -2,18 +2,16 @@
 -- Assumes nothing.
 use Prim.Native.Nat.{ℕ, zero, suc, _+_, _-_, _*_, _/_, _%_, _^_, _<_, _≤_}
 use mathlib.Core.Path.{_≡_, refl, sym, _∙_}
-use mathlib.Core.Bool.{Bool, true, not, _||_}
+use mathlib.Core.Bool.{true, not, _||_}
 use mathlib.Core.List.{List}
 use native.Mathlib.Nat.{mod-lt}
 use native.Mathlib.Decide.{ℕ-discrete}
 use native.Mathlib.Omega.{arith}
 use lib.Dec.{eqb}
 use lib.ListN.{length, getD}
-use lib.Pow.{pow-mono}
 use borrow.Author.Tests.{lt-ltb, le-leb, eq-eqb, ne-eqb}
-use Rattle.laws.specs.Bits.{packBits}
 use Rattle.laws.specs.Tests.{allTrue}
-use Rattle.laws.proofs.Bits.{packed-lt}
+use Rattle.laws.proofs.Bits.{packed-few}
 use Rattle.laws.proofs.Bools.{both}
 use Rattle.laws.proofs.Split.{by-dec}
 use Rattle.laws.proofs.Table.{length-table, table-at}
@@ -145,9 +143,6 @@ module _ (s : SetUp) (z : Given s) (p : Paper) (x : Mem) (k : Kept s p x) where
 
 -- ---- the days
 
-word-few : (k : ℕ) (g : ℕ → Bool) → k ≤ 48 → packBits k g < 281474976710656
-word-few k g l = let few : 2 ^ k ≤ 2 ^ 48 = pow-mono {j = 48} l in omega (arith, packed-lt k g)
-
 module _ (s : SetUp) (p : Paper) (d k r : ℕ) (x : Store) (few : k ≤ 48) (v : ValuesKept s (p .tape .counts) d k r (x .values) (x .starts))
     (m : MarksKept (p .tape .marks) d k r (x .marks)) (f : getD (x .marks) (r * 3 + 2) 0 ≡ flagsOf (p .tape .flags) d) where
   room-fits : allTrue (dayTests (x .values) (x .starts) (x .marks) r k) ≡ true
@@ -161,9 +156,9 @@ module _ (s : SetUp) (p : Paper) (d k r : ℕ) (x : Store) (few : k ≤ 48) (v :
           (
             eq-eqb (getD (x .marks) (r * 3 + 2) 0 % 32) 0 (rw f (flags-low (t .flags) d)),
             (
-              lt-ltb (getD (x .marks) (r * 3) 0) 281474976710656 (rw (m .reverse) (word-few k (ofDay (t .marks .reverse) d) few)),
+              lt-ltb (getD (x .marks) (r * 3) 0) 281474976710656 (rw (m .reverse) (packed-few k (ofDay (t .marks .reverse) d) few)),
               (
-                lt-ltb (getD (x .marks) (r * 3 + 1) 0) 281474976710656 (rw (m .level2) (word-few k (ofDay (t .marks .level2) d) few)),
+                lt-ltb (getD (x .marks) (r * 3 + 1) 0) 281474976710656 (rw (m .level2) (packed-few k (ofDay (t .marks .level2) d) few)),
                 (
                   all-of (valueFits (x .values) r) k
                       (λ j l. lt-ltb (getD (x .values) (r * 48 + j) 0) 10000 (rw (v .value j l) (mod-lt (totalAt s (t .counts) (48 * d + suc j) / 10) {m = 10000} (omega arith)))),

@@ -1,15 +1,18 @@
 -- What demand 3 says of the life, beside what is computed of it.
 -- Assumes nothing.
-use Prim.Native.Nat.{ℕ, zero, suc, _+_, _/_, _<_, _≤_}
+use Prim.Native.Nat.{ℕ, _+_, _/_, _<_, _≤_}
 use mathlib.Core.Path.{_≡_, refl, sym, ap, _∙_, subst}
 use mathlib.Core.Logic.{_↔_, ⊎-elim}
 use mathlib.Core.Bool.{true}
-use mathlib.Core.List.{List, [], _∷_, map, List·Memᴰ, List·Memᴰ·head, List·Memᴰ·tail, List·Memᴰ·not-nil, List·Memᴰ·cases-cons}
+use mathlib.Core.List.{List, [], _∷_, List·Memᴰ, List·Memᴰ·head, List·Memᴰ·not-nil, List·Memᴰ·cases-cons}
 use native.Mathlib.Decide.{decLt}
 use native.Mathlib.Omega.{arith}
 use lib.ListN.{length, getD}
 use Rattle.laws.specs.Tests.{sumBelow}
+use Rattle.laws.proofs.Bools.{iff-trans}
+use Rattle.laws.proofs.Lists.{member-at, length-map}
 use Rattle.laws.proofs.Split.{by-dec}
+use Rattle.laws.proofs.Tests.{same-count}
 use Rattle.calendar.specs.Clock.{endedOn}
 use Rattle.calendar.proofs.Times.{ended-formula}
 use Rattle.days.specs.Day.{Half, History, isHeld, halfAt, count}
@@ -26,20 +29,10 @@ use Rattle.assurance.specs.Written.{addAfter, addAt, markAt, markFrom, unitsWit
 use Rattle.assurance.specs.Meaning.{countedBefore}
 use Rattle.assurance.specs.Delivered.{Drawn, Holds, DayHeld, HalfTold, heldOn, past, counted}
 use Rattle.assurance.proofs.Demands.{demand-3}
-use Rattle.assurance.proofs.Life.{iff-trans}
 use Rattle.example.specs.Example.{meter, lent, calls, block, late, ledger, held, IsDay, Worked}
 use Rattle.example.proofs.Computed as computed
 
 -- ---- the blocks delivered are the run's
-
-at-least : {A : Type 0} (l : List A) (i : ℕ) (z : A) → i < length l → List·Memᴰ (getD l i z) l
-at-least [] i z h = absurd (omega arith)
-at-least (a ∷ l) zero z h = List·Memᴰ·head refl
-at-least (a ∷ l) (suc i) z h = List·Memᴰ·tail (at-least l i z (omega arith))
-
-length-map : {A B : Type 0} (f : A → B) (l : List A) → length (map f l) ≡ length l
-length-map f [] = refl
-length-map f (a ∷ l) = ap suc (length-map f l)
 
 three : length (blocksIn (setUp meter lent .after) calls) ≡ 3
 three = sym (length-map length (blocksIn (setUp meter lent .after) calls)) ∙ ap length computed.bytes
@@ -54,7 +47,7 @@ either P b i u v =
 drawn : Drawn meter lent calls late
 drawn b i =
     let sent = blocksIn (setUp meter lent .after) calls in
-    either (λ c. List·Memᴰ c sent) b i (at-least sent 2 [] (omega (arith, three))) (at-least sent 0 [] (omega (arith, three)))
+    either (λ c. List·Memᴰ c sent) b i (member-at sent 2 [] (omega (arith, three))) (member-at sent 0 [] (omega (arith, three)))
 
 pub holds : Holds meter lent calls ledger 0 3 late
 holds = demand-3 meter lent calls ledger 0 3 late computed.begins computed.well drawn
@@ -86,14 +79,6 @@ told-is d l j = (
 )
 
 -- ---- the days
-
-same-count : (c k : ℕ) → ((j : ℕ) → (j < c) ↔ (j < k)) → c ≡ k
-same-count c k iff =
-    by-dec (decLt c k)
-    (λ l. absurd (let no : c < c = iff c .1 l in omega arith))
-    (λ l. by-dec (decLt k c)
-    (λ m. absurd (let no : k < k = iff k .0 m in omega arith))
-    (λ m. omega arith))
 
 module _ (d k : ℕ) (l : d ≤ 2) (e : endedOn 173400 d ≡ k) (z : 0 + d ≡ d) where
   day : DayHeld meter lent calls ledger 0 3 late d (heldOn held d) (missingOf held d)

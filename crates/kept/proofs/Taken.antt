@@ -1,27 +1,27 @@
 -- A block that is read: what it offers fits a room; and what makes a desk take it.
 -- Assumes nothing.
 use mathlib.Core.Path.{_≡_, refl, sym, ap, _∙_}
-use mathlib.Core.Bool.{true, _||_}
+use mathlib.Core.Bool.{true}
 use mathlib.Core.List.{List, [], _∷_}
 use Prim.Native.Nat.{ℕ, _<_, _≤_, _+_, _-_, _%_}
 use native.Mathlib.Omega.{arith}
-use lib.Dec.{leb, ltb, eqb}
+use lib.Dec.{leb, ltb}
 use lib.ListN.{length, getD}
-use borrow.Author.Tests.{lt-ltb, le-leb, eq-eqb, leb-true}
+use borrow.Author.Tests.{lt-ltb, le-leb, eq-eqb}
 use Rattle.laws.specs.Table.{table}
 use Rattle.laws.proofs.Split.{by-test}
-use Rattle.laws.proofs.Bools.{both, or-split}
 use Rattle.laws.proofs.Table.{length-table, table-at}
 use Rattle.laws.proofs.Tests.{allTrue-of, all-at, all-of}
 use Rattle.quantity.specs.Units.{readingRound}
 use Rattle.calendar.specs.Clock.{endedOn}
 use Rattle.calendar.proofs.Times.{ended-le}
 use Rattle.format.specs.Numbers.{binary, isDigit, numAt, digitAt}
-use Rattle.format.specs.Identifier.{capital, figure, identByte, identTest, identOk}
+use Rattle.format.specs.Identifier.{identTest, identOk}
 use Rattle.format.proofs.Numbers.{byte-num, good-at, bytes-good}
 use Rattle.block.specs.Fields.{fieldsIn, secondsIn, identIn, startIn, flagsIn}
 use Rattle.block.specs.Parse.{fields, parse}
 use Rattle.block.specs.Answers.{answerOf}
+use Rattle.block.proofs.Checking.{ident-small}
 use Rattle.block.proofs.Positions.{ident-at}
 use Rattle.block.proofs.Trip.{days-of}
 use Rattle.block.proofs.Ranges.{start-low, flags-low, flags-clear, half-low, parsed-byte}
@@ -102,21 +102,6 @@ offer-fits b z d =
 
 -- ---- a block that a ledger of its identifier takes
 
-capital-low : (c : ℕ) → capital c ≡ true → c < 256
-capital-low c h = omega (arith, leb-true c 90 (both (leb 65 c) (leb c 90) h .1))
-
-figure-low : (c : ℕ) → figure c ≡ true → c < 256
-figure-low c h = omega (arith, leb-true c 57 (both (leb 48 c) (leb c 57) h .1))
-
-ident-low : (q c : ℕ) → identByte q c ≡ true → c < 256
-unfolding identByte
-ident-low q c h =
-    by-test (eqb q 3)
-    (λ t. capital-low c (rw t at h))
-    (λ t. by-test (eqb q 4 || eqb q 5)
-    (λ u. figure-low c (rw (t, u) at h))
-    (λ u. or-split (capital c) (figure c) (capital-low c) (figure-low c) (rw (t, u) at h)))
-
 module _ (id : List ℕ) (first days : ℕ) (ident : identOk id 0 ≡ true) where
   head-at : (p : ℕ) → p < 12 → getD (headOf id first days) p 0 ≡ getD id p 0
   unfolding headOf headByte
@@ -124,7 +109,7 @@ module _ (id : List ℕ) (first days : ℕ) (ident : identOk id 0 ≡ true) wher
 
   id-digit : (q : ℕ) → q < 12 → isDigit binary (getD id (0 + q) 0) ≡ true
   unfolding isDigit identOk identTest
-  id-digit q h = lt-ltb (getD id (0 + q) 0) 256 (ident-low q (getD id (0 + q) 0) (all-at (identTest id 0) 12 ident q h))
+  id-digit q h = lt-ltb (getD id (0 + q) 0) 256 (ident-small q (getD id (0 + q) 0) (all-at (identTest id 0) 12 ident q h))
 
   -- a block with the fields vs is taken where its identifier is the one that the ledger was opened for
   module _ (b : List ℕ) (n : ℕ) (vs : List ℕ) (read : parse b ≡ fields n vs) (same : identIn vs ≡ numAt binary id 0 12) where

@@ -8,3 +8,5 @@ pub mod Table
 pub mod Ring
 pub mod Bits
 pub mod Rows
+pub mod Lists
+pub mod Round

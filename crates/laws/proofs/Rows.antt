@@ -1,13 +1,13 @@
 -- A row of elements stored in a list one after the other (`sets` of the library): where it changes the list, rows side by side, parts.
 -- Assumes nothing.
-use Prim.Native.Nat.{ℕ, zero, suc, _+_, _-_, _<_, _≤_}
+use Prim.Native.Nat.{ℕ, zero, suc, _+_, _<_, _≤_}
 use mathlib.Core.Path.{_≡_, refl, sym, ap, _∙_}
 use mathlib.Core.List.{List, [], _∷_, _++_, append-assoc, append-nil}
 use native.Mathlib.Nat.{add-zero, add-suc, suc-add, zero-add}
 use native.Mathlib.Numerals.{add-one}
 use native.Mathlib.Omega.{arith}
-use lib.ListN.{length, getD, set, take, drop, length-set, length-append, length-drop}
-use lib.Seq.{sets, sets-eq, set-comm, drop-cons, drop-drop, drop-length, take-at, drop-at, length-take-le, getD-set-same, getD-set-other, getD-take, getD-drop}
+use lib.ListN.{length, getD, set, take, drop, length-set, length-drop}
+use lib.Seq.{sets, sets-eq, set-comm, drop-cons, drop-length, take-at, drop-at, length-take-le, getD-set-same, getD-set-other, getD-take, getD-drop}
 use Rattle.laws.specs.Table.{table}
 use Rattle.laws.proofs.Table.{length-table, table-same, table-add}
 

@@ -4,12 +4,14 @@ use Prim.Native.Nat.{ℕ, zero, suc, _+_, _-_, _*_, _≤_, _<_}
 use mathlib.Core.Path.{_≡_, refl, sym, ap, _∙_}
 use mathlib.Core.Bool.{Bool, true, false, not, _&&_, and-true, and-assoc}
 use mathlib.Core.List.{List, [], _∷_}
+use mathlib.Core.Logic.{_↔_}
 use native.Mathlib.Numerals.{add-one}
-use native.Mathlib.Decide.{ℕ-discrete}
+use native.Mathlib.Decide.{ℕ-discrete, decLt}
 use native.Mathlib.Omega.{arith}
-use borrow.Author.Tests.{not-true, not-false}
+use lib.Dec.{leb}
+use borrow.Author.Tests.{not-true, not-false, leb-true, le-leb}
 use Rattle.laws.specs.Tests.{andAll, allTrue, allBelow, sumBelow}
-use Rattle.laws.proofs.Bools.{and-left, and-right, no-right}
+use Rattle.laws.proofs.Bools.{and-left, and-right, no-right, bool-eq}
 use Rattle.laws.proofs.Split.{by-dec}
 
 -- ---- the tests of a list
@@ -80,6 +82,22 @@ pub all-cons : (p : ℕ → Bool) (n : ℕ) → allBelow p (suc n) ≡ (p 0 && a
 unfolding allBelow
 all-cons p zero = sym (and-true (p 0))
 all-cons p (suc n) = ap (λ (b : Bool). b && p (suc n)) (all-cons p n) ∙ and-assoc (p 0) (allBelow (λ (i : ℕ). p (suc i)) n) (p (suc n))
+
+-- how many numbers are at most m
+pub all-leb : (m n : ℕ) → allBelow (λ (i : ℕ). leb i m) n ≡ leb n (m + 1)
+all-leb m n =
+    bool-eq (allBelow (λ (i : ℕ). leb i m) n) (leb n (m + 1))
+    (λ e. by-dec (decLt n (m + 2)) (λ l. le-leb n (m + 1) (omega arith)) (λ l. absurd (omega (arith, leb-true (m + 1) m (all-at (λ (i : ℕ). leb i m) n e (m + 1) (omega arith))))))
+    (λ e. all-of (λ (i : ℕ). leb i m) n (λ k l. le-leb k m (omega (arith, leb-true n (m + 1) e))))
+
+-- numbers that the same numbers are less than
+pub same-count : (c k : ℕ) → ((j : ℕ) → (j < c) ↔ (j < k)) → c ≡ k
+same-count c k iff =
+    by-dec (decLt c k)
+    (λ l. absurd (let no : c < c = iff c .1 l in omega arith))
+    (λ l. by-dec (decLt k c)
+    (λ m. absurd (let no : k < k = iff k .0 m in omega arith))
+    (λ m. omega arith))
 
 -- a loop that returns at the first failed test: what it keeps, a turn, its two ends
 pub record All (p : ℕ → Bool) (n i : ℕ) : Type 0 where

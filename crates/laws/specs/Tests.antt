@@ -1,6 +1,6 @@
 -- Tests that must all pass: those of a list, and one test at each of the first numbers. Beside them the sum over the first numbers.
 use Prim.Native.Nat.{ℕ, zero, suc, _+_}
-use mathlib.Core.Bool.{Bool, true, false, _&&_}
+use mathlib.Core.Bool.{Bool, true, _&&_}
 use mathlib.Core.List.{List, [], _∷_}
 
 -- b and every test of the list, gathered from the left as code gathers them

@@ -2,11 +2,10 @@
 -- Assumes nothing.
 use Prim.Native.Nat.{ℕ, _+_}
 use mathlib.Core.List.{List}
-use mathlib.Core.Path.{_≡_, refl, sym, ap, _∙_}
+use mathlib.Core.Path.{_≡_, sym, ap, _∙_}
 use borrow.Author.Tests.{ne-eqb}
 use lib.ListN.{length}
-use Rattle.store.specs.Store.{Words, store, flagged}
-use Rattle.recorder.specs.declared.Stepped.{Stepped}
+use Rattle.store.specs.Store.{flagged}
 use Rattle.recorder.specs.Recorder.{Recorder, Mem, Event, mem, capOf, todayOf}
 use Rattle.recorder.specs.Boundary.{advanceTo}
 use Rattle.recorder.specs.Effect.{powerLost, firstFlagged, flagFrom, turnedOn, after}

@@ -1,20 +1,19 @@
 -- Set-up makes a recorder in range with a store of its lengths, every event keeps both, and a refusal keeps all.
 -- So such a recorder is never refused with 4 or 5; the blank one always is, with 5.
 -- Assumes nothing.
-use Prim.Native.Nat.{ℕ, zero, suc, _+_, _-_, _*_, _/_, _%_, _<_, _≤_}
-use mathlib.Core.Bool.{Bool, true, false, not}
+use Prim.Native.Nat.{ℕ, _+_, _-_, _*_, _/_, _<_, _≤_}
+use mathlib.Core.Bool.{true}
 use mathlib.Core.List.{List, [], _∷_}
-use mathlib.Core.Path.{_≡_, refl, sym, _∙_}
+use mathlib.Core.Path.{_≡_, refl}
 use native.Mathlib.Decide.{decLt}
 use native.Mathlib.Omega.{arith}
-use borrow.Author.Tests.{ltb-true, leb-true, eq-eqb, ne-eqb, eqb-true, eqb-false, not-false}
-use lib.Dec.{ltb, leb, eqb}
-use lib.ListN.{length, getD, set, replicate, length-set, length-replicate, getD-replicate}
-use Rattle.calendar.specs.Clock.{secondsOfDay, secondsOfHalf, halvesOfDay, timesInAll}
-use Rattle.laws.specs.Each.{forTo}
+use borrow.Author.Tests.{leb-true, eq-eqb, ne-eqb, eqb-true, not-false}
+use lib.Dec.{leb, eqb}
+use lib.ListN.{length, getD-replicate}
+use Rattle.calendar.specs.Clock.{secondsOfHalf, halvesOfDay, timesInAll}
 use Rattle.laws.specs.Tests.{allTrue}
 use Rattle.laws.proofs.Bools.{both}
-use Rattle.laws.proofs.Loop.{for-keeps}
+use Rattle.laws.proofs.Lists.{set-keeps}
 use Rattle.laws.proofs.Split.{by-test, by-dec}
 use Rattle.laws.proofs.Tests.{allTrue-each}
 use Rattle.quantity.specs.declared.WattHours.{WattHours}
@@ -24,15 +23,14 @@ use Rattle.registers.specs.declared.Energy.{Energy}
 use Rattle.registers.specs.declared.Present.{Present}
 use Rattle.registers.specs.declared.Running.{Running}
 use Rattle.registers.specs.Demand.{demandClosed}
-use Rattle.registers.specs.Energy.{leastWeight, mostWeight, rateCount, rateOk, noEnergy, addedOf, energyCounted}
+use Rattle.registers.specs.Energy.{leastWeight, mostWeight, rateCount, rateOk, noEnergy, energyCounted}
 use Rattle.registers.specs.Present.{presentAt}
-use Rattle.store.specs.Begun.{begun, filled}
 use Rattle.store.specs.Class.{daysOf, dayWords, rightLengths}
-use Rattle.store.specs.Store.{Store, store, Fits, Words, flagAt, flagged}
+use Rattle.store.specs.Store.{Store, store, Fits, Words}
 use Rattle.store.proofs.Laws.{begun-fits, flag-words, flagged-words, gone-fits}
 use Rattle.recorder.specs.declared.SetUp.{SetUp}
-use Rattle.recorder.specs.Recorder.{Recorder, Mem, Event, Count, Clock, Off, On, Access, Meter, Reset, Rate, Reverse, mem, with, capOf, halfOf, todayOf, readingNow, withClock}
-use Rattle.recorder.specs.Boundary.{ended, advanceTo, goneTo, storeAt}
+use Rattle.recorder.specs.Recorder.{Recorder, Mem, Event, Count, Clock, Off, On, Access, Meter, Reset, Rate, Reverse, with, capOf, halfOf, todayOf, readingNow}
+use Rattle.recorder.specs.Boundary.{ended, advanceTo, storeAt}
 use Rattle.recorder.specs.Effect.{powerLost, meterChanged, demandCleared, counted, lastIs, rateIs, switchedOff, wasReset, accessed, reversed, firstFlagged, flagToday, flagFrom, after}
 use Rattle.recorder.specs.Answer.{eventAnswer, unitsAfter, answerWith, answerOf}
 use Rattle.recorder.specs.Step.{step, run}
@@ -48,14 +46,6 @@ pub record Sound (x : Mem) : Type 0 where
   pub fits : Fits (capOf (x .recorder)) (x .store)
 
 -- ---- the ranges, event by event
-
--- what holds of each element and of a new one holds after a store
-set-keeps : {A : Type 0} (P : A → Type 0) (l : List A) (i : ℕ) (a d : A) (k : ℕ) → P a → P (getD l k d) → P (getD (set l i a) k d)
-set-keeps P [] i a d k pa pk = pk
-set-keeps P (x ∷ xs) zero a d zero pa pk = pa
-set-keeps P (x ∷ xs) zero a d (suc k) pa pk = pk
-set-keeps P (x ∷ xs) (suc i) a d zero pa pk = pk
-set-keeps P (x ∷ xs) (suc i) a d (suc k) pa pk = set-keeps P xs i a d k pa pk
 
 kept-count : (r : Recorder) (c : ℕ) → Ranges r → Ranges (counted c r)
 unfolding energyCounted

@@ -1,7 +1,7 @@
 -- What a recorder in range has of its numbers, as plain bounds group by group, and back.
 -- Assumes nothing.
 use Prim.Native.Nat.{ℕ, _+_, _/_, _<_, _≤_}
-use mathlib.Core.Bool.{Bool, true, _&&_}
+use mathlib.Core.Bool.{true}
 use mathlib.Core.Path.{_≡_}
 use borrow.Author.Tests.{ltb-true, leb-true, lt-ltb, le-leb}
 use lib.Dec.{leb}
@@ -10,7 +10,7 @@ use Rattle.calendar.specs.Calendar.{daysInAll}
 use Rattle.calendar.specs.Clock.{secondsOfDay, timesInAll}
 use Rattle.format.specs.Identifier.{identOk}
 use Rattle.laws.specs.Tests.{allTrue}
-use Rattle.laws.proofs.Bools.{both}
+use Rattle.laws.proofs.Bools.{both, both-of}
 use Rattle.laws.proofs.Tests.{allTrue-each, allTrue-of, all-at, all-of}
 use Rattle.quantity.specs.Units.{totalRound, readingRound, demandRound}
 use Rattle.registers.specs.declared.Demand.{Demand}
@@ -53,9 +53,6 @@ pub record Ranges (r : Recorder) : Type 0 where
   pub energy : EnergyRanges (r .energy)
   pub demand : DemandRanges (r .demand)
   pub base : r .running .base .0 < readingRound
-
-both-of : (a b : Bool) → a ≡ true → b ≡ true → (a && b) ≡ true
-both-of a b p q = rw (p, q)
 
 -- from a test to its bounds
 from-identity : (i : Identity) → allTrue (identityTests i) ≡ true → IdentityRanges i

@@ -16,10 +16,9 @@ use Rattle.quantity.specs.Units.{readingOf, lastFour}
 use Rattle.calendar.specs.Clock.{secondsOfHalf}
 use Rattle.store.specs.Begun.{begun}
 use Rattle.store.specs.Class.{daysOf, rightLengths}
-use Rattle.store.specs.Store.{Store, Fits, Goes, store}
+use Rattle.store.specs.Store.{Store, Goes, store}
 use Rattle.recorder.specs.declared.SetUp.{SetUp}
-use Rattle.recorder.specs.declared.Stepped.{Stepped}
-use Rattle.recorder.specs.Recorder.{Recorder, Mem, mem}
+use Rattle.recorder.specs.Recorder.{Recorder}
 use Rattle.recorder.specs.Step.{Done, done}
 use Rattle.recorder.specs.SetUp.{setUpTests, setUpChecks, setUpWith, setUpAnswer, fresh, blank, storeBegun, made, setUp}
 use Rattle.recorder.specs.Needs.{Begins}

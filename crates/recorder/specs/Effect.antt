@@ -1,6 +1,6 @@
 -- What an accepted event does (document 01, "Events", the table, in its order).
 use Prim.Native.Nat.{ℕ, _+_, _-_, max}
-use mathlib.Core.Bool.{Bool, true, false}
+use mathlib.Core.Bool.{true, false}
 use Rattle.registers.specs.Demand.{demandReset}
 use Rattle.registers.specs.Energy.{energyCounted, energyLast, energyRate}
 use Rattle.store.specs.Store.{store, flagAt, flagged}

@@ -7,7 +7,6 @@ ghost use lib.Dec.{ltb};
 ghost use Rattle.laws.specs.Tests.{allTrue};
 ghost use Rattle.format.specs.Identifier.{identOk};
 ghost use Rattle.registers.specs.Energy.{Countable, rateOk};
-ghost use Rattle.calendar.specs.Clock.{secondsOfHalf};
 ghost use Rattle.store.specs.Class.{mostDays};
 ghost use Rattle.store.specs.Store.{store, flagAt, flagged};
 ghost use Rattle.recorder.specs.Recorder.{mem, capOf, todayOf, withClock};

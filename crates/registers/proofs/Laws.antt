@@ -1,7 +1,7 @@
 -- Pulses as a wrapping difference, and what a count can come to; each law concludes what a proof of the code looks for.
 -- Assumes nothing.
-use Prim.Native.Nat.{ℕ, _+_, _-_, _*_, _/_, _%_, _^_, _<_, _≤_}
-use mathlib.Core.Path.{_≡_, refl, sym, ap, _∙_}
+use Prim.Native.Nat.{ℕ, _+_, _-_, _*_, _%_, _^_, _<_, _≤_}
+use mathlib.Core.Path.{_≡_, ap}
 use mir.Syntax.{w64}
 use mir.Val.{Fits}
 use native.Mathlib.Nat.{mul-le-mul}
@@ -10,7 +10,7 @@ use Rattle.quantity.specs.declared.RegisterUnits.{RegisterUnits}
 use Rattle.quantity.specs.declared.WattHours.{WattHours}
 use Rattle.quantity.specs.Units.{wattHours, units, readingOf, readingGap}
 use Rattle.registers.specs.declared.Energy.{Energy}
-use Rattle.registers.specs.Energy.{Countable, mostWeight, mostAdded, pulsesOf, addedOf, unitsWith}
+use Rattle.registers.specs.Energy.{Countable, mostAdded, pulsesOf, addedOf, unitsWith}
 
 -- a difference that runs round at 2^32 is the difference modulo 2^32
 pub wrapped : (c last p : ℕ) → c < 2 ^ 32 → last < 2 ^ 32 → p < 2 ^ 32 → (p + last) % 2 ^ 32 ≡ c → p ≡ pulsesOf last c

@@ -1,11 +1,11 @@
 -- Hexadecimal: the digits of a word tested, its bytes put one by one, and a row's digits.
 -- Assumes nothing.
-use Prim.Native.Nat.{ℕ, zero, suc, _+_, _-_, _*_, _/_, _%_, _≤_, _<_}
-use mathlib.Core.Path.{_≡_, refl, sym, ap, _∙_}
-use mathlib.Core.Bool.{Bool, true, false, not, cond, _&&_}
+use Prim.Native.Nat.{ℕ, _+_, _-_, _*_, _/_, _%_, _≤_, _<_}
+use mathlib.Core.Path.{_≡_, refl, sym, _∙_}
+use mathlib.Core.Bool.{Bool, true, false, not}
 use mathlib.Core.List.{List}
 use native.Mathlib.Omega.{arith}
-use lib.Dec.{eqb, leb, ltb}
+use lib.Dec.{eqb, leb}
 use lib.ListN.{length, getD, set, length-set}
 use lib.Seq.{sets}
 use borrow.Author.Tests.{le-leb, lt-leb, lt-ltb, le-ltb, eq-eqb, ne-eqb}
@@ -14,9 +14,8 @@ use Rattle.laws.specs.Tests.{allBelow}
 use Rattle.laws.proofs.Bools.{no-left, no-right, passed, failed}
 use Rattle.laws.proofs.Tests.{All, all-start, all-passed, all-stop, all-done}
 use Rattle.laws.proofs.Rows.{none-stored, row-next}
-use Rattle.format.specs.declared.Number.{Number}
 use Rattle.format.specs.declared.Number.the-variants.{Is, Bad}
-use Rattle.script.specs.Hex.{isHex, sixteenth, letterOf, hexTest, hexOk, byteIn, Unhexed, unhexing, unhexed, letterAt, Hexed, hexing, hexed}
+use Rattle.script.specs.Hex.{isHex, sixteenth, letterOf, hexTest, hexOk, byteIn, unhexing, unhexed, letterAt, hexing, hexed}
 
 -- ---- a digit
 

@@ -2,16 +2,18 @@
 -- Assumes nothing.
 use Prim.Native.Nat.{ℕ, zero, suc, _+_, _-_, _≤_, _<_, max}
 use mathlib.Core.Path.{_≡_, refl, sym, ap, _∙_}
-use mathlib.Core.List.{List, [], _∷_}
+use mathlib.Core.List.{List, []}
 use native.Mathlib.Omega.{arith}
-use lib.Dec.{eqb}
+use lib.Dec.{eqb, leb}
 use lib.ListN.{length, take, drop, getD, drop-of-length-le}
 use lib.Seq.{drop-drop, take-length}
+use borrow.Author.Tests.{le-leb, lt-leb}
 use Rattle.laws.specs.Bits.{bit}
 use Rattle.laws.specs.Tests.{sumBelow}
 use Rattle.laws.proofs.Tests.{sum-none, sum-turn, sum-end}
 use Rattle.bytes.specs.Bytes.{slice, indexOf}
-use Rattle.script.specs.Words.{space, newline, lineEnd, after, wordAt, isSpace, argumentsIn}
+use Rattle.format.specs.Numbers.{binary, numAt}
+use Rattle.script.specs.Words.{space, newline, lineEnd, after, wordAt, isSpace, argumentsIn, nameOf}
 
 -- to the end of the list
 slice-all : (i : ℕ) (s : List ℕ) → slice i (length s) s ≡ drop i s
@@ -93,3 +95,13 @@ module _ (s : List ℕ) (k : ℕ) where
   word-is from end d e =
       let y : end - from ≡ indexOf space (drop from s) = omega (arith, e ∙ ap (λ (t : List ℕ). from + indexOf space t) (slice-all from s)) in
       rw (y, d)
+
+-- ---- a word as one number
+
+pub name-none : (w : List ℕ) → 8 < length w → 0 ≡ nameOf w
+unfolding nameOf
+name-none w h = rw (lt-leb (length w) 8 h)
+
+pub name-is : (w : List ℕ) (r : ℕ) → r ≡ numAt binary w 0 (length w) → length w ≤ 8 → r ≡ nameOf w
+unfolding nameOf
+name-is w r e h = rw (le-leb (length w) 8 h) e

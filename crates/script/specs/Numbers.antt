@@ -1,6 +1,6 @@
 -- The numbers, days and times that words name (docs/REPLAY.md, "The script"): `N`, `DAY` and `TIME`.
-use Prim.Native.Nat.{ℕ, suc, _+_, _*_, _^_}
-use mathlib.Core.Bool.{Bool, cond, _&&_}
+use Prim.Native.Nat.{ℕ, _+_, _*_, _^_}
+use mathlib.Core.Bool.{cond, _&&_}
 use mathlib.Core.List.{List}
 use lib.Dec.{eqb, leb, ltb}
 use lib.ListN.{length, drop, getD}

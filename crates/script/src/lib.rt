@@ -4,7 +4,7 @@ ghost use Prim.Native.Nat.{max, _+_, _-_, _*_, _<_, _≤_};
 ghost use lib.ListN.{length, drop};
 ghost use Rattle.laws.specs.Bits.{bit};
 ghost use Rattle.calendar.specs.Digits.{dayOn, secondsOn};
-ghost use Rattle.script.specs.Words.{lineEnd, after, wordAt, argumentsIn};
+ghost use Rattle.script.specs.Words.{lineEnd, after, wordAt, argumentsIn, nameOf};
 ghost use Rattle.script.specs.Hex.{isHex, sixteenth, letterOf, hexOk, byteIn, unhexing, unhexed, letterAt, hexing, hexed};
 ghost use Rattle.script.specs.Numbers.{numberOf, smallOf, sixOf, ifDate, dayNamed, secondNamed, joined, timeNamed};
 use calendar::Found;
@@ -22,6 +22,8 @@ const SPACE: u8 = 32;
 const NEWLINE: u8 = 10;
 
 const AT: u8 = 64;
+
+const MOST_LETTERS: usize = 8;
 
 const MOST_DIGITS: usize = 18;
 
@@ -80,6 +82,17 @@ pub fn word(line: &[u8], k: usize) -> &[u8]
     let from = word_start(line, k);
     let end = bytes::scan::find(line, from, line.len(), SPACE);
     &line[from..end]
+}
+
+// A word of at most eight letters as one number: its bytes, the first one highest. 0 for any other.
+pub fn name(word: &[u8]) -> u64
+    ensures { λ r. ⌜ r ≡ nameOf (now (word .entry)) ⌝ }
+{
+    let n = word.len();
+    if MOST_LETTERS < n {
+        return 0;
+    }
+    format::be(word, 0, n)
 }
 
 // ---- numbers

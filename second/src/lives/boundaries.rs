@@ -180,7 +180,7 @@ pub fn run_rounds(seed: u64) -> Script {
     for (cumulative, current, resets) in
         [(999_999, 2, 99), (999_999, 999_999, 99), (0, 0, 0), (999_998, 1, 98), (500_000, 500_000, 50)]
     {
-        life.say(format!("poke cumulative {cumulative}"));
+        life.say(format!("poke summed {cumulative}"));
         life.say(format!("poke current {current}"));
         life.say(format!("poke resets {resets}"));
         life.say_all(&["reset", "show", "read 1", "block"]);

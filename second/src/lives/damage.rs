@@ -241,35 +241,13 @@ pub fn ledgers(seed: u64) -> Script {
         }
     }
     // The order 4, 5, 6, 8, 9, 10, 11, 12 at the ledger.
+    let wrong_ways = ["cut 0", "file", "take 0", "byte 17 120", "file", "take 0", "byte 109 57", "file"];
     life.say(&opened);
-    life.say_all(&[
-        "cut 0",
-        "file",
-        "take 0",
-        "byte 17 120",
-        "file",
-        "take 0",
-        "byte 109 57",
-        "file",
-        "byte 17 120",
-        "file",
-        "cut 5",
-        "file",
-    ]);
+    life.say_all(&wrong_ways);
+    life.say_all(&["byte 17 120", "file", "cut 5", "file"]);
     life.say(format!("open {OTHER_IDENTIFIER} {first} 3"));
-    life.say_all(&[
-        "cut 0",
-        "file",
-        "take 0",
-        "byte 17 120",
-        "file",
-        "take 0",
-        "byte 109 57",
-        "file",
-        "take 0",
-        "file",
-        "ledger",
-    ]);
+    life.say_all(&wrong_ways);
+    life.say_all(&["take 0", "file", "ledger"]);
     life.say(&opened);
     life.say_all(&[
         "take 0",

@@ -126,7 +126,7 @@ pub fn pokes(seed: u64) -> Script {
         ("rate", &[0, 1, 8, 9, 256, 4_294_967_295]),
         ("current", &[0, 19_998, 999_999, 1_000_000, 4_294_967_295]),
         ("previous", &[0, 999_999, 1_000_000, 4_294_967_295]),
-        ("cumulative", &[0, 999_999, 1_000_000, 4_294_967_295]),
+        ("summed", &[0, 999_999, 1_000_000, 4_294_967_295]),
         ("reset", &[0, 1, 36_525, 36_526, 4_294_967_295]),
         ("resets", &[0, 1, 99, 100, 4_294_967_295]),
         ("base", &[0, 1, 99_999_999, 100_000_000, 4_294_967_295]),
@@ -149,7 +149,7 @@ pub fn pokes(seed: u64) -> Script {
     for at in 0..12 {
         for byte in [b'A', b'Z', b'0', b'9', b'a', b'@', b'[', b'/', b':', b' ', 0, 255] {
             life.lived(Class::A, 0);
-            life.say(format!("poke identifier {at} {byte}"));
+            life.say(format!("poke letter {at} {byte}"));
             life.say_all(&["access", "read 0", "listing"]);
         }
     }

@@ -14,7 +14,7 @@ pub fn given(seed: u64) -> Script {
     life.say_all(&["write 98662", "write 0", "given days 1", "write 98662", "given days 0"]);
     for (at, byte) in IDENTIFIER.bytes().enumerate() {
         life.say("write 112");
-        life.say(format!("given identifier {at} {byte}"));
+        life.say(format!("given letter {at} {byte}"));
     }
     for room in [0, 1, 4, 5, 111, 112, 113, 98_662] {
         life.say(format!("write {room}"));
@@ -109,7 +109,7 @@ fn give_header(life: &mut Life, header: &Header) {
         ("kwh", header.kwh),
         ("current", header.current),
         ("previous", header.previous),
-        ("cumulative", header.cumulative),
+        ("summed", header.cumulative),
         ("reset", header.reset),
         ("resets", header.resets),
         ("days", header.days),
@@ -146,12 +146,9 @@ fn write(life: &mut Life) {
 }
 
 fn spoil_header(life: &mut Life, header: &Header) {
-    for (name, right) in [
-        ("kwh", header.kwh),
-        ("current", header.current),
-        ("previous", header.previous),
-        ("cumulative", header.cumulative),
-    ] {
+    for (name, right) in
+        [("kwh", header.kwh), ("current", header.current), ("previous", header.previous), ("summed", header.cumulative)]
+    {
         for number in SIX_DIGITS {
             life.say(format!("given {name} {number}"));
             write(life);
@@ -174,10 +171,10 @@ fn spoil_header(life: &mut Life, header: &Header) {
     }
     for at in 0..12 {
         for byte in [b'A', b'Z', b'0', b'9', b'a', b'@', b'[', b'/', b':', b' ', 0, 127, 128, 255] {
-            life.say(format!("given identifier {at} {byte}"));
+            life.say(format!("given letter {at} {byte}"));
             life.say_all(&["write 98662", "write 111"]);
         }
-        life.say(format!("given identifier {at} {}", header.identifier[at]));
+        life.say(format!("given letter {at} {}", header.identifier[at]));
     }
     let midnight = header.time - header.time % SECONDS_PER_DAY;
     let times = [

@@ -1,7 +1,6 @@
 use mathlib.Core.Path.{ap}
 use native.Mathlib.Omega.{arith}
 use Rattle.quantity.specs.Units.{centiKilowatts}
-use borrow.Author.Needs.{needs}
 use Rattle.registers.proofs.larger.Statement.{statement}
 use Rattle.registers.proofs.larger.Tie as tie
 

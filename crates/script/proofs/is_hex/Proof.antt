@@ -1,6 +1,5 @@
 use mathlib.Core.Path.{refl}
 use Rattle.script.specs.Hex.{isHex}
-use borrow.Author.Needs.{needs}
 use Rattle.script.proofs.is_hex.Statement.{statement}
 use Rattle.script.proofs.is_hex.Tie as tie
 

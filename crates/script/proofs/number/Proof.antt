@@ -1,6 +1,5 @@
 use Rattle.script.proofs.Numbers.{no-digit, too-many, some-digits}
 use borrow.Author.Needs.{needs}
-use borrow.Author.Needs.{needs}
 use Rattle.script.proofs.number.Statement.{statement}
 use Rattle.script.proofs.number.Tie as tie
 

@@ -1,4 +1,3 @@
-use Rattle.registers.specs.Energy.{unitsWith}
 use Rattle.registers.proofs.Laws.{sum-fits, then-more, units-fit, units-done}
 use borrow.Author.Needs.{needs}
 use borrow.Author.Needs.{needs}

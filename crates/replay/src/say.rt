@@ -1,0 +1,109 @@
+// Answers on standard output.
+ghost use Prim.Native.Nat.{_<_, _≤_};
+use crate::memory;
+use libc::STDOUT_FILENO;
+
+// Bytes in hexadecimal are printed so many at a time.
+const PART: usize = 2048;
+
+pub fn text(bytes: &[u8]) {
+    io::write_all(STDOUT_FILENO, bytes);
+}
+
+pub fn number(x: u64) {
+    io::print_decimal(STDOUT_FILENO, x);
+}
+
+// A space and a number.
+pub fn then(x: u64) {
+    text(b" ");
+    number(x);
+}
+
+pub fn end() {
+    text(b"\n");
+}
+
+pub fn answer(number: u32, carried: u32) {
+    self::number(number as u64);
+    then(carried as u64);
+    end();
+}
+
+pub fn done(carried: usize) {
+    number(0);
+    then(carried as u64);
+    end();
+}
+
+// The line with this number can't be understood.
+pub fn unread(line: u64) {
+    text(b"?");
+    then(line);
+    end();
+}
+
+// Whether a line names something that is there.
+pub fn known(line: u64, known: bool) {
+    if known {
+        done(0);
+    } else {
+        unread(line);
+    }
+}
+
+fn bit(b: bool) -> u64 {
+    if b { 1 } else { 0 }
+}
+
+pub fn flag(b: bool) {
+    then(bit(b));
+}
+
+// ---- bytes
+
+fn first(out: &[u8], k: usize) {
+    text(memory::part(out, 0, k));
+}
+
+fn show(out: &[u8; 4096], k: usize) {
+    first(out, k);
+}
+
+fn spell(bytes: &[u8], out: &mut [u8; 4096]) -> usize {
+    script::hex(bytes, out)
+}
+
+fn hex_part(bytes: &[u8]) {
+    let mut out = [0u8; 4096];
+    let k = spell(bytes, &mut out);
+    show(&out, k);
+}
+
+fn next(from: usize, n: usize) -> usize
+    requires { ⌜ from < n ⌝ }
+    ensures { λ r. ⌜ (from < r) × (r ≤ n) ⌝ }
+{
+    if n - from < PART { n } else { from + PART }
+}
+
+// In hexadecimal, and the end of the line.
+pub fn hex(bytes: &[u8]) {
+    let mut from: usize = 0;
+    while from < bytes.len() {
+        let to = next(from, bytes.len());
+        hex_part(&bytes[from..to]);
+        from = to;
+    }
+    end();
+}
+
+fn list(block: &[u8], out: &mut [u8; 4096]) -> usize {
+    lines::listed(block, out)
+}
+
+pub fn listing(block: &[u8]) {
+    let mut out = [0u8; 4096];
+    let k = list(block, &mut out);
+    show(&out, k);
+}
