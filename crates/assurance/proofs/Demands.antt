@@ -22,7 +22,7 @@ use Rattle.recorder.proofs.Kept.{refused, set-up-blank, blank-refused}
 use Rattle.recorder.specs.declared.SetUp.{SetUp}
 use Rattle.recorder.specs.declared.Event.{Event}
 use Rattle.recorder.specs.Recorder.{Mem}
-use Rattle.recorder.specs.Step.{run}
+use Rattle.recorder.specs.Step.{step, run}
 use Rattle.recorder.specs.SetUp.{started, blank, setUp}
 use Rattle.readout.specs.Read.{headerSent, daysSent, sourceSent, readAnswer, readOf}
 use Rattle.assurance.specs.Written.{paper}
@@ -34,6 +34,7 @@ use Rattle.assurance.proofs.Run.{kept}
 use Rattle.assurance.proofs.Life.{life}
 use Rattle.assurance.proofs.Reading.{block-reads, read-is}
 use Rattle.assurance.proofs.Blocks.{run-events}
+use Rattle.assurance.proofs.Causes.{causes}
 use Rattle.assurance.proofs.Delivered.{holds}
 
 -- ---- demand 1
@@ -58,6 +59,14 @@ blank-read : (asked : ℕ) (x : Store) (out : List ℕ) → readOf asked (record
 unfolding readOf readAnswer blank started
 blank-read asked x out = refl
 
+step-carries : (x : Mem) (e : Event) → step x e .carried ≡ 0
+unfolding step
+step-carries x e = refl
+
+set-up-carries : (s : SetUp) (x : Store) → setUp s x .carried ≡ 0
+unfolding setUp
+set-up-carries s x = refl
+
 pub demand-1 : Demand1
 demand-1 = record {
   steps = refused;
@@ -68,6 +77,9 @@ demand-1 = record {
   set-up = set-up-blank;
   blank-step = blank-refused;
   blank-read = blank-read;
+  step-carries = step-carries;
+  set-up-carries = set-up-carries;
+  causes = causes;
 }
 
 -- ---- demand 2

@@ -19,4 +19,5 @@ pub mod Reading
 pub mod Honest
 pub mod Blocks
 pub mod Delivered
+pub mod Causes
 pub mod Demands

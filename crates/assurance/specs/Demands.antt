@@ -12,6 +12,7 @@ use Rattle.judgement.specs.Source.{lent}
 use Rattle.judgement.specs.Days.{daysFrom}
 use Rattle.judgement.specs.Given.{given}
 use Rattle.writer.specs.Send.{writeOf}
+use Rattle.ledger.specs.Judged.{judged}
 use Rattle.ledger.specs.Open.{openOf}
 use Rattle.filing.specs.File.{fileOf}
 use Rattle.store.specs.Store.{Store}
@@ -25,12 +26,13 @@ use Rattle.assurance.specs.Written.{paper}
 use Rattle.assurance.specs.Sent.{daysDue, fieldsDue, blockDue, sentDue}
 use Rattle.assurance.specs.Run.{Call, runAll, eventsOf, blockOf}
 use Rattle.assurance.specs.Life.{Life}
+use Rattle.assurance.specs.Causes.{Causes}
 use Rattle.assurance.specs.Delivered.{Drawn, Holds}
 
 abbrev pub Refused : ℕ → Type 0
 Refused number = number ≡ 0 → ⊥
 
--- Demand 1: whatever is given, a refusal changes nothing. (That every call answers, and by document 01's table, is its contract, which asks nothing.)
+-- Demand 1: whatever is given, a refusal changes nothing, and the desk refuses only with cause. (That every call answers, and by document 01's table, is its contract, which asks nothing.)
 pub record Demand1 : Type 0 where
   pub steps : (x : Mem) (e : Event) → Refused (step x e .answer) → step x e .after ≡ x
   pub reads : (asked : ℕ) (x : Mem) (out : List ℕ) → Refused (readOf asked x out .answer .number) → readOf asked x out .out ≡ out
@@ -41,6 +43,11 @@ pub record Demand1 : Type 0 where
   pub set-up : (s : SetUp) (x : Store) → Refused (setUp s x .answer) → setUp s x .after ≡ record { recorder = blank; store = x }
   pub blank-step : (x : Store) (e : Event) → step (record { recorder = blank; store = x }) e .answer ≡ 5
   pub blank-read : (asked : ℕ) (x : Store) (out : List ℕ) → readOf asked (record { recorder = blank; store = x }) out .answer .number ≡ 5
+  -- neither an event nor a set-up carries anything
+  pub step-carries : (x : Mem) (e : Event) → step x e .carried ≡ 0
+  pub set-up-carries : (s : SetUp) (x : Store) → setUp s x .carried ≡ 0
+  -- a block that the reader takes is refused by a good ledger for another identifier and for what differs, and for nothing else
+  pub causes : (l b : List ℕ) (n : ℕ) (vs : List ℕ) → judged l ≡ 0 → parse b ≡ fields n vs → Causes l b
 
 -- Demand 2: values, event by event and at every point of every life, and the block both ways.
 pub record Demand2 : Type 0 where

@@ -6,4 +6,5 @@ pub mod Sent
 pub mod Life
 pub mod Run
 pub mod Delivered
+pub mod Causes
 pub mod Demands

@@ -1,6 +1,7 @@
--- The starred cases of document 01's table "Reckoned by hand" that concern the recorder, and its outage of three days: for each what the definitions give, and what the table says.
+-- The starred cases of document 01's table "Reckoned by hand" that concern the recorder, its outage of three days, and answers 1, 6 and 2: for each what the definitions give,
+-- and what document 01 says.
 use Prim.Native.Nat.{ℕ}
-use mathlib.Core.List.{List, [], _∷_}
+use mathlib.Core.List.{List, [], _∷_, map}
 use lib.ListN.{replicate}
 use Rattle.calendar.specs.Calendar.{realDate}
 use Rattle.calendar.specs.Clock.{endedOn}
@@ -9,7 +10,7 @@ use Rattle.quantity.specs.Units.{wattHours, units, centiKilowatts, readingOf, d
 use Rattle.registers.specs.Energy.{pulsesOf}
 use Rattle.store.specs.declared.Class.the-variants.{A}
 use Rattle.store.specs.Store.{store}
-use Rattle.recorder.specs.Recorder.{Mem, Event, Count, Clock, Off, On, Reset, with, withDemand}
+use Rattle.recorder.specs.Recorder.{Mem, Event, Count, Clock, Off, On, Access, Meter, Reset, Rate, Reverse, with, withDemand}
 use Rattle.recorder.specs.Answer.{answerOf}
 use Rattle.recorder.specs.Step.{step, run}
 use Rattle.recorder.specs.SetUp.{given, setUp}
@@ -43,6 +44,13 @@ reading x = readingOf (x .recorder .energy .total) .0
 
 abbrev pub next : Mem → Event → Mem
 next x e = step x e .after
+
+-- one event of each kind
+abbrev pub kinds : List Event
+kinds = Count 0 ∷ Clock 0 ∷ Off ∷ On 0 ∷ Access ∷ Meter 0 ∷ Reset ∷ Rate 1 ∷ Reverse ∷ []
+
+abbrev pub answers : Mem → List Event → List ℕ
+answers x es = map (answerOf x) es
 
 abbrev pub cases : List Case
 cases =
@@ -83,4 +91,11 @@ cases =
           ∷ flagsWord (run (meter 85800 0 0 1) (Off ∷ On 173400 ∷ [])) 2 ∷ flagsWord (run (meter 85800 0 0 1) (Off ∷ On 173400 ∷ [])) 3 ∷ [];
       due = 128 ∷ 128 ∷ 128 ∷ 0 ∷ [];
     }
+    -- while on, On is 1; while off, any other
+    ∷ record { given = answers (meter 0 0 0 1) kinds; due = 0 ∷ 0 ∷ 0 ∷ 1 ∷ 0 ∷ 0 ∷ 0 ∷ 0 ∷ 0 ∷ [] }
+    ∷ record { given = answers (next (meter 0 0 0 1) Off) kinds; due = 1 ∷ 1 ∷ 1 ∷ 0 ∷ 1 ∷ 1 ∷ 1 ∷ 1 ∷ 1 ∷ [] }
+    -- rates 0, 1, 8, 9; the last second of 2099 and the next; 1 before 6, 2 and 3
+    ∷ record { given = answers (meter 0 0 0 1) (Rate 0 ∷ Rate 1 ∷ Rate 8 ∷ Rate 9 ∷ []); due = 6 ∷ 0 ∷ 0 ∷ 6 ∷ [] }
+    ∷ record { given = answers (meter 5 0 0 1) (Clock 3155759999 ∷ Clock 3155760000 ∷ []); due = 0 ∷ 2 ∷ [] }
+    ∷ record { given = answers (next (meter 5 0 0 1) Off) (Rate 9 ∷ Clock 4 ∷ Count 1000000 ∷ On 4 ∷ []); due = 1 ∷ 1 ∷ 1 ∷ 2 ∷ [] }
     ∷ []
