@@ -9,13 +9,12 @@ use Rattle.laws.proofs.Loop.{for-on, for-done}
 use Rattle.store.specs.Store.{Store, store}
 use Rattle.recorder.specs.declared.Event.{Event}
 use Rattle.recorder.specs.declared.Event.the-variants.{Count, Clock}
-use Rattle.recorder.specs.declared.Recorder.{Recorder}
 use Rattle.recorder.specs.declared.Stepped.{Stepped}
 use Rattle.recorder.specs.Recorder.{Mem, mem}
 use Rattle.recorder.specs.Step.{Done, done, step}
 use Rattle.recorder.specs.SetUp.{setUp}
 use Rattle.readout.specs.Read.{ReadDone, readDone, readBack}
-use Rattle.timing.specs.Timed.{meter, begun, counting, counted, clocking, clocked, totalled, totalOf, timeOf, stored, Reads, reads, reading, readsOf}
+use Rattle.timing.specs.Timed.{meter, begun, counting, counted, clocking, clocked, totalOf, timeOf, stored, Reads, reads, reading, readsOf}
 
 -- ---- one call
 

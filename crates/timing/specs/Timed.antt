@@ -10,7 +10,7 @@ use Rattle.recorder.specs.declared.Event.the-variants.{Count, Clock}
 use Rattle.recorder.specs.Recorder.{Mem}
 use Rattle.recorder.specs.Step.{step}
 use Rattle.recorder.specs.SetUp.{given, setUp}
-use Rattle.readout.specs.Read.{ReadDone, readBack}
+use Rattle.readout.specs.Read.{readBack}
 
 -- class d, 1 Wh a pulse, at 2000-01-01 00:00:00, all at zero
 abbrev pub meter : SetUp
