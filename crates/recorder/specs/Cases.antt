@@ -1,4 +1,4 @@
--- The starred cases of document 01's table "Reckoned by hand" that concern the recorder, its outage of three days, and answers 1, 6 and 2: for each what the definitions give,
+-- The starred cases of document 01's table "Reckoned by hand" that concern the recorder, its outage of three days, the daily flags, and answers 1, 6 and 2: for each what the definitions give,
 -- and what document 01 says.
 use Prim.Native.Nat.{ℕ}
 use mathlib.Core.List.{List, [], _∷_, map}
@@ -91,6 +91,8 @@ cases =
           ∷ flagsWord (run (meter 85800 0 0 1) (Off ∷ On 173400 ∷ [])) 2 ∷ flagsWord (run (meter 85800 0 0 1) (Off ∷ On 173400 ∷ [])) 3 ∷ [];
       due = 128 ∷ 128 ∷ 128 ∷ 0 ∷ [];
     }
+    -- Meter and Reset flag the day 0x40 and 0x20
+    ∷ record { given = flagsWord (next (meter 0 0 0 1) (Meter 7)) 0 ∷ flagsWord (next (meter 0 0 0 1) Reset) 0 ∷ []; due = 64 ∷ 32 ∷ [] }
     -- while on, On is 1; while off, any other
     ∷ record { given = answers (meter 0 0 0 1) kinds; due = 0 ∷ 0 ∷ 0 ∷ 1 ∷ 0 ∷ 0 ∷ 0 ∷ 0 ∷ 0 ∷ [] }
     ∷ record { given = answers (next (meter 0 0 0 1) Off) kinds; due = 1 ∷ 1 ∷ 1 ∷ 0 ∷ 1 ∷ 1 ∷ 1 ∷ 1 ∷ 1 ∷ [] }
