@@ -8,6 +8,7 @@ use native.Mathlib.Omega.{arith}
 use borrow.Author.Tests.{eq-eqb, ne-eqb, eqb-true, eqb-false, leb-true, ltb-true, not-false}
 use lib.Dec.{leb, ltb, eqb}
 use lib.ListN.{length}
+use Rattle.laws.specs.Tests.{allTrue}
 use Rattle.laws.proofs.Bools.{both, passed, failed}
 use Rattle.laws.proofs.Checks.{NoneFails, none-fails}
 use Rattle.quantity.specs.declared.RegisterUnits.{RegisterUnits}
@@ -19,10 +20,17 @@ use Rattle.store.specs.declared.Class.the-variants.{A, B, C, D, Blank}
 use Rattle.store.specs.Class.{daysOf, mostDays, dayWords, rightLengths}
 use Rattle.store.specs.Store.{Fits, store}
 use Rattle.recorder.specs.Recorder.{Recorder, Event, Clock, On, Mem, mem, capOf}
-use Rattle.recorder.specs.Range.{inRange}
-use Rattle.recorder.specs.Answer.{mostUnits, unitsAfter, eventAnswer, inTime, checks, answerWith, answerOf}
+use Rattle.recorder.specs.Range.{identityTests, registerTests, inRange}
+use Rattle.recorder.specs.Answer.{wrongPower, mostUnits, unitsAfter, eventAnswer, inTime, checks, answerWith, answerOf}
 use Rattle.recorder.specs.Needs.{Good, Goes, Resets, Flaggable}
 use Rattle.recorder.proofs.Ranges.{Ranges, ranges, countable}
+
+-- the ranges, judged in two parts
+pub in-halves : (r : Recorder) (d : ℕ) (a b : Bool) → d ≡ capOf r → a ≡ allTrue (identityTests (r .identity))
+    → b ≡ allTrue (registerTests d (r .clock) (r .energy) (r .demand) (r .running)) → (a && b) ≡ inRange r
+unfolding inRange
+in-halves r d true b p e f = rw (sym e, f, p)
+in-halves r d false b p e f = rw (sym e)
 
 pub range-counts : (r : Recorder) (b : Bool) → b ≡ inRange r → not b ≡ false → Countable (r .identity .weight) (r .energy)
 range-counts r b e t = countable r (ranges r (passed b (inRange r) e t))
@@ -88,6 +96,9 @@ module _ (r : Recorder) (e : Event) (v s m : List ℕ) (a : answerOf (mem r v s 
   accepted-fits =
       let f = right-lengths (capOf r) (length v) (length s) (length m) (not-false (rightLengths (capOf r) (length v) (length s) (length m)) (none .1 .0)) in
       record { some = omega (arith, eqb-false (capOf r) 0 (none .0)); most = days-few (r .identity .class); values = f .0; starts = f .1; marks = f .2 }
+
+  pub accepted-power : wrongPower (r .clock .on) e ≡ false
+  accepted-power = none .1 .1 .1 .0
 
   pub accepted-counts : Countable (r .identity .weight) (r .energy)
   accepted-counts = countable r accepted-ranges

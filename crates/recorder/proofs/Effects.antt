@@ -1,30 +1,93 @@
 -- Events, and the step, in the form that the proofs of the code look for.
 -- Assumes nothing.
 use Prim.Native.Nat.{ℕ, _+_}
+use mathlib.Core.Bool.{Bool, true, false, cond}
 use mathlib.Core.List.{List}
 use mathlib.Core.Path.{_≡_, sym, ap, _∙_}
-use borrow.Author.Tests.{ne-eqb}
+use native.Mathlib.Omega.{arith}
+use borrow.Author.Tests.{ne-eqb, not-false}
 use lib.ListN.{length}
 use Rattle.store.specs.Store.{flagged}
-use Rattle.recorder.specs.Recorder.{Recorder, Mem, Event, mem, capOf, todayOf}
+use Rattle.recorder.specs.declared.step.Told.{Told}
+use Rattle.recorder.specs.declared.step.Told.the-variants.{Is, Not}
+use Rattle.recorder.specs.Recorder.{Recorder, Mem, Event, Count, Clock, Off, On, Access, Meter, Reset, Rate, Reverse, mem, capOf, todayOf}
 use Rattle.recorder.specs.Boundary.{advanceTo}
 use Rattle.recorder.specs.Effect.{powerLost, firstFlagged, flagFrom, turnedOn, after}
-use Rattle.recorder.specs.Answer.{answerWith, answerOf}
+use Rattle.recorder.specs.Answer.{wrongPower, answerWith, answerOf}
 use Rattle.recorder.specs.Step.{Done, done, step}
-use Rattle.recorder.specs.Needs.{Good, Goes, Flaggable}
+use Rattle.recorder.specs.Needs.{Good, Goes, Flaggable, timeIn, told}
+use Rattle.recorder.proofs.Answers.{accepted-power, accepted-clock, accepted-on}
 use Rattle.recorder.proofs.Boundaries.{gone-good}
 
--- On(t)
+-- Clock(t) and On(t)
 pub on-flags : (t : ℕ) (x : Mem) (y : Recorder) (v s m : List ℕ) → mem y v s m ≡ advanceTo t x → Goes t x → Flaggable y m
 on-flags t x y v s m p g =
     let h : Good (mem y v s m) = rw p (gone-good t x g) in
     record { time = h .time; words = record { some = h .fits .some; most = h .fits .most; marks = h .fits .marks } }
 
 pub on-done : (t off : ℕ) (r y : Recorder) (v s m v₁ s₁ m₁ l : List ℕ) → off ≡ todayOf r → mem y v₁ s₁ m₁ ≡ advanceTo t (mem r v s m)
-    → l ≡ flagged (capOf y) (firstFlagged y off) (todayOf y + 1) powerLost m₁ → mem y v₁ s₁ l ≡ turnedOn t (mem r v s m)
+    → l ≡ flagged (capOf y) (firstFlagged y off) (todayOf y + 1) powerLost m₁ → r .clock .on ≡ false → mem y v₁ s₁ l ≡ told t (mem r v s m)
 unfolding flagFrom
-on-done t off r y v s m v₁ s₁ m₁ l o p e =
-    rw (e, o) (ap (λ (w : Mem). flagFrom (todayOf r) powerLost w) p)
+on-done t off r y v s m v₁ s₁ m₁ l o p e z =
+    let x = mem r v s m in
+    let q : mem y v₁ s₁ l ≡ turnedOn t x = rw (e, o) (ap (λ (w : Mem). flagFrom (todayOf r) powerLost w) p) in
+    q ∙ sym (ap (λ (b : Bool). cond b (advanceTo t x) (turnedOn t x)) z)
+
+pub clock-done : (t : ℕ) (r y : Recorder) (v s m v₁ s₁ m₁ : List ℕ) → r .clock .on ≡ true → mem y v₁ s₁ m₁ ≡ advanceTo t (mem r v s m) → mem y v₁ s₁ m₁ ≡ told t (mem r v s m)
+clock-done t r y v s m v₁ s₁ m₁ o p = let x = mem r v s m in p ∙ sym (ap (λ (b : Bool). cond b (advanceTo t x) (turnedOn t x)) o)
+
+-- an event that tells the time, and one that does not
+abbrev order : Told → ℕ
+order (Is t) = t + 1
+order Not = 0
+
+same-time : (u t : ℕ) → Is u ≡ Is t → u ≡ t
+same-time u t p = let q : u + 1 ≡ t + 1 = ap order p in omega arith
+
+no-time : {A : Type 0} (t : ℕ) → Not ≡ Is t → A
+no-time t p = absurd (let q : 0 ≡ t + 1 = ap order p in omega arith)
+
+pub no-clock : (e : Event) (t : ℕ) → timeIn e ≡ Not → e ≡ Clock t → ⊥
+no-clock e t p q = no-time t (sym p ∙ ap timeIn q)
+
+pub no-on : (e : Event) (t : ℕ) → timeIn e ≡ Not → e ≡ On t → ⊥
+no-on e t p q = no-time t (sym p ∙ ap timeIn q)
+
+goes-to : (r : Recorder) (e : Event) (v s m : List ℕ) → answerOf (mem r v s m) e ≡ 0 → (t : ℕ) → timeIn e ≡ Is t → Goes t (mem r v s m)
+goes-to r (Count c) v s m a t p = no-time t p
+goes-to r (Clock u) v s m a t p = accepted-clock r (Clock u) v s m a t (ap Clock (same-time u t p))
+goes-to r Off v s m a t p = no-time t p
+goes-to r (On u) v s m a t p = accepted-on r (On u) v s m a t (ap On (same-time u t p))
+goes-to r Access v s m a t p = no-time t p
+goes-to r (Meter c) v s m a t p = no-time t p
+goes-to r Reset v s m a t p = no-time t p
+goes-to r (Rate n) v s m a t p = no-time t p
+goes-to r Reverse v s m a t p = no-time t p
+
+pub told-goes : (r : Recorder) (e : Event) (v s m : List ℕ) (w : Told) (t : ℕ) → answerOf (mem r v s m) e ≡ 0 → w ≡ timeIn e → w ≡ Is t → Goes t (mem r v s m)
+told-goes r e v s m w t a p q = goes-to r e v s m a t (sym p ∙ q)
+
+told-after : (r : Recorder) (e : Event) (v s m : List ℕ) → answerOf (mem r v s m) e ≡ 0 → (t : ℕ) → timeIn e ≡ Is t → told t (mem r v s m) ≡ after (mem r v s m) e
+unfolding after wrongPower
+told-after r (Count c) v s m a t p = no-time t p
+told-after r (Clock u) v s m a t p =
+    let on : r .clock .on ≡ true = not-false (r .clock .on) (accepted-power r (Clock u) v s m a) in
+    let x = mem r v s m in
+    ap (λ (b : Bool). cond b (advanceTo t x) (turnedOn t x)) on ∙ ap (λ (k : ℕ). advanceTo k x) (sym (same-time u t p))
+told-after r Off v s m a t p = no-time t p
+told-after r (On u) v s m a t p =
+    let off : r .clock .on ≡ false = accepted-power r (On u) v s m a in
+    let x = mem r v s m in
+    ap (λ (b : Bool). cond b (advanceTo t x) (turnedOn t x)) off ∙ ap (λ (k : ℕ). turnedOn k x) (sym (same-time u t p))
+told-after r Access v s m a t p = no-time t p
+told-after r (Meter c) v s m a t p = no-time t p
+told-after r Reset v s m a t p = no-time t p
+told-after r (Rate n) v s m a t p = no-time t p
+told-after r Reverse v s m a t p = no-time t p
+
+pub told-done : (r y : Recorder) (e : Event) (v s m v₁ s₁ m₁ : List ℕ) (w : Told) (t : ℕ) → answerOf (mem r v s m) e ≡ 0 → w ≡ timeIn e → w ≡ Is t
+    → mem y v₁ s₁ m₁ ≡ told t (mem r v s m) → mem y v₁ s₁ m₁ ≡ after (mem r v s m) e
+told-done r y e v s m v₁ s₁ m₁ w t a p q d = d ∙ told-after r e v s m a t (sym p ∙ q)
 
 -- a step, by the answer a: refused, accepted and done
 module _ (r : Recorder) (e : Event) (a : ℕ) (v s m : List ℕ) (p : a ≡ answerWith r e (length v) (length s) (length m)) where

@@ -192,19 +192,18 @@ impl Energy {
     }
 
     // Count(c).
-    pub fn counted(self, weight: WattHours, c: u32) -> Energy
+    pub fn counted(mut self, weight: WattHours, c: u32) -> Energy
         requires { ⌜ Countable weight self ⌝ }
         ensures { λ r. ⌜ r ≡ energyCounted weight c self ⌝ }
     {
         let added = self.added(weight, c);
         let at = (self.rate - 1) as usize;
-        let rates = self.rates;
-        let register = rates[at];
-        let mut next = self;
-        next.total = self.total.plus(added);
-        next.last = c;
-        next.rates[at] = register.plus(added);
-        next
+        let total = self.total;
+        let register = self.rates[at];
+        self.total = total.plus(added);
+        self.last = c;
+        self.rates[at] = register.plus(added);
+        self
     }
 }
 

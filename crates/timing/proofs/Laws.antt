@@ -1,6 +1,9 @@
 -- What each loop that is timed keeps, and what it has done at its end.
 -- Assumes nothing.
-use Prim.Native.Nat.{ℕ, _+_, _*_, _≤_, _<_}
+use Prim.Native.Nat.{ℕ, _+_, _*_, _^_, _≤_, _<_}
+use native.Mathlib.Nat.{mul-le-mul}
+use mir.Syntax.{w64}
+use mir.Val.{Fits}
 use mathlib.Core.Path.{_≡_, refl, sym, ap, _∙_}
 use mathlib.Core.List.{List}
 use native.Mathlib.Omega.{arith}
@@ -8,13 +11,13 @@ use Rattle.laws.specs.Each.{forTo}
 use Rattle.laws.proofs.Loop.{for-on, for-done}
 use Rattle.store.specs.Store.{Store, store}
 use Rattle.recorder.specs.declared.Event.{Event}
-use Rattle.recorder.specs.declared.Event.the-variants.{Count, Clock}
 use Rattle.recorder.specs.declared.Stepped.{Stepped}
 use Rattle.recorder.specs.Recorder.{Mem, mem}
 use Rattle.recorder.specs.Step.{Done, done, step}
 use Rattle.recorder.specs.SetUp.{setUp}
 use Rattle.readout.specs.Read.{ReadDone, readDone, readBack}
-use Rattle.timing.specs.Timed.{meter, begun, counting, counted, clocking, clocked, totalOf, timeOf, stored, Reads, reads, reading, readsOf}
+use Rattle.timing.specs.declared.Kind.{Kind}
+use Rattle.timing.specs.Timed.{meter, begun, nth, coming, played, totalOf, timeOf, Reads, reads, reading, readsOf}
 
 -- ---- one call
 
@@ -23,8 +26,8 @@ module _ (d : Stepped) (v s m : List ℕ) where
   unfolding begun
   set-up-after x e = ap (λ (y : Done). y .after) e
 
-  pub step-after : (x : Mem) (a : Event) → done d v s m ≡ step x a → mem (d .recorder) v s m ≡ step x a .after
-  step-after x a e = ap (λ (y : Done). y .after) e
+pub product-fits : (a b : ℕ) → a < 2 ^ 32 → b < 2 ^ 32 → Fits w64 (a * b)
+product-fits a b h k = let q : a * b ≤ 4294967295 * 4294967295 = mul-le-mul {n₂ = 4294967295} {m₂ = 4294967295} (omega arith) (omega arith) in omega arith
 
 -- ---- loops: what is still to be done comes to the whole
 
@@ -41,14 +44,11 @@ going-on f n x₀ i x y g h e = record { at-most = omega arith; rest = ap (forTo
 pub going-done : {A : Type 0} (f : ℕ → A → A) (n : ℕ) (x₀ : A) (i : ℕ) (x : A) → Going f n x₀ i x → n ≤ i → x ≡ forTo f 0 n x₀
 going-done f n x₀ i x g h = sym (for-done f i n x h) ∙ g .rest
 
-module _ (n : ℕ) (x₀ : Mem) (i : ℕ) (x y : Mem) where
-  pub count-on : Going counting n x₀ i x → i < n → y ≡ step x (Count (i + 1)) .after → Going counting n x₀ (i + 1) y
-  unfolding counting
-  count-on g h e = going-on counting n x₀ i x y g h e
-
-  pub clock-on : (by t : ℕ) → Going (clocking by) n x₀ i x → i < n → t ≡ by * i → y ≡ step x (Clock (t + by)) .after → Going (clocking by) n x₀ (i + 1) y
-  unfolding clocking
-  clock-on by t g h p e = going-on (clocking by) n x₀ i x y g h (let q : t + by ≡ by * (i + 1) = omega arith in e ∙ ap (λ (k : ℕ). step x (Clock k) .after) q)
+pub coming-on : (kind : Kind) (n : ℕ) (x₀ : Mem) (i : ℕ) (x : Mem) (a : Event) (d : Stepped) (v s m : List ℕ)
+    → Going (coming kind) n x₀ i x → i < n → a ≡ nth kind (i + 1) → done d v s m ≡ step x a → Going (coming kind) n x₀ (i + 1) (mem (d .recorder) v s m)
+unfolding coming
+coming-on kind n x₀ i x a d v s m g h p e =
+    going-on (coming kind) n x₀ i x (mem (d .recorder) v s m) g h (ap (λ (y : Done). y .after) (e ∙ ap (step x) p))
 
 module _ (n : ℕ) (x : Mem) (out₀ out o : List ℕ) (i bytes : ℕ) (h : Stepped) where
   pub read-on : Going (reading x) n (reads out₀ 0) i (reads out bytes) → i < n → readDone h o ≡ readBack 450 x out
@@ -58,21 +58,19 @@ module _ (n : ℕ) (x : Mem) (out₀ out o : List ℕ) (i bytes : ℕ) (h : Step
 
 -- ---- whole
 
-module _ (x : Store) (y z : Mem) (e : y ≡ begun x) where
-  pub counted-is : (n : ℕ) → z ≡ forTo counting 0 n y → totalOf z ≡ totalOf (counted n x)
-  unfolding counted
-  counted-is n f = ap totalOf (f ∙ ap (forTo counting 0 n) e)
+module _ (kind : Kind) (n : ℕ) (x : Store) (z : Mem) where
+  pub played-is : (y : Mem) → y ≡ begun x → z ≡ forTo (coming kind) 0 n y → z ≡ played kind n x
+  unfolding played
+  played-is y e f = f ∙ ap (forTo (coming kind) 0 n) e
 
-  pub clocked-is : (by n : ℕ) → z ≡ forTo (clocking by) 0 n y → timeOf z ≡ timeOf (clocked by n x)
-  unfolding clocked
-  clocked-is by n f = ap timeOf (f ∙ ap (forTo (clocking by) 0 n) e)
+  pub total-is : z ≡ played kind n x → totalOf z ≡ totalOf (played kind n x)
+  total-is e = ap totalOf e
 
-  stored-is : z ≡ step y (Clock 38797800) .after → z ≡ stored x
-  unfolding stored
-  stored-is f = f ∙ ap (λ (w : Mem). step w (Clock 38797800) .after) e
+  pub time-is : z ≡ played kind n x → timeOf z ≡ timeOf (played kind n x)
+  time-is e = ap timeOf e
 
-  pub store-is : z ≡ step y (Clock 38797800) .after → z .store ≡ stored x .store
-  store-is f = ap (λ (w : Mem). w .store) (stored-is f)
+  pub store-is : z ≡ played kind n x → z .store ≡ played kind n x .store
+  store-is e = ap (λ (w : Mem). w .store) e
 
-  pub reads-are : (n : ℕ) (out : List ℕ) (r : Reads) → z ≡ step y (Clock 38797800) .after → r ≡ readsOf n z out → r ≡ readsOf n (stored x) out
-  reads-are n out r f g = g ∙ ap (λ (w : Mem). readsOf n w out) (stored-is f)
+  pub reads-are : (m : ℕ) (out : List ℕ) (r : Reads) → z ≡ played kind n x → r ≡ readsOf m z out → r ≡ readsOf m (played kind n x) out
+  reads-are m out r e f = f ∙ ap (λ (w : Mem). readsOf m w out) e

@@ -6,11 +6,14 @@ use Rattle.quantity.specs.Units.{wattHours}
 use Rattle.store.specs.declared.Class.the-variants.{D}
 use Rattle.store.specs.Store.{Store}
 use Rattle.recorder.specs.declared.SetUp.{SetUp}
+use Rattle.recorder.specs.declared.Event.{Event}
 use Rattle.recorder.specs.declared.Event.the-variants.{Count, Clock}
 use Rattle.recorder.specs.Recorder.{Mem}
 use Rattle.recorder.specs.Step.{step}
 use Rattle.recorder.specs.SetUp.{given, setUp}
 use Rattle.readout.specs.Read.{readBack}
+use Rattle.timing.specs.declared.Kind.{Kind}
+use Rattle.timing.specs.declared.Kind.the-variants.{Counts, Clocks}
 
 -- class d, 1 Wh a pulse, at 2000-01-01 00:00:00, all at zero
 abbrev pub meter : SetUp
@@ -19,19 +22,17 @@ meter = given (65 ∷ 66 ∷ 67 ∷ 88 ∷ 50 ∷ 52 ∷ 48 ∷ 48 ∷ 48 ∷ 48
 unfoldable pub begun : Store → Mem
 begun s = setUp meter s .after
 
--- the counter goes on by one pulse each time
-unfoldable pub counting : ℕ → Mem → Mem
-counting i x = step x (Count (i + 1)) .after
+-- the i-th event: the counter goes on by one pulse each time, or the time by so many seconds
+abbrev pub nth : Kind → ℕ → Event
+nth Counts i = Count i
+nth (Clocks by) i = Clock (by * i)
 
-unfoldable pub counted : ℕ → Store → Mem
-counted n s = forTo counting 0 n (begun s)
+unfoldable pub coming : Kind → ℕ → Mem → Mem
+coming kind i x = step x (nth kind (i + 1)) .after
 
--- the time goes on by so many seconds each time
-unfoldable pub clocking : ℕ → ℕ → Mem → Mem
-clocking by i x = step x (Clock (by * (i + 1))) .after
-
-unfoldable pub clocked : ℕ → ℕ → Store → Mem
-clocked by n s = forTo (clocking by) 0 n (begun s)
+-- n of them
+unfoldable pub played : Kind → ℕ → Store → Mem
+played kind n s = forTo (coming kind) 0 n (begun s)
 
 -- what is answered, the total or the time, beside the store
 pub record Totalled : Type 0 where
@@ -48,8 +49,8 @@ abbrev pub timeOf : Mem → Totalled
 timeOf x = totalled (x .recorder .clock .time) (x .store)
 
 -- a full store: 449 days and 01:10 later
-unfoldable pub stored : Store → Mem
-stored s = step (begun s) (Clock 38797800) .after
+abbrev pub stored : Store → Mem
+stored s = played (Clocks 38797800) 1 s
 
 -- reads of 450 days: the output, and the bytes carried, added up
 pub record Reads : Type 0 where

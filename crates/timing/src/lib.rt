@@ -3,18 +3,34 @@
 ghost use mathlib.Core.Path.{_≡_};
 ghost use Rattle.laws.specs.Each.{forTo};
 ghost use Rattle.recorder.specs.Recorder.{mem};
-ghost use Rattle.recorder.specs.Step.{step};
 ghost use Rattle.store.specs.Store.{store};
-ghost use Rattle.timing.specs.Timed.{begun, counting, counted, clocking, clocked, totalled, totalOf, timeOf, stored, reads, readsOf};
+ghost use Rattle.timing.specs.declared.Kind.the-variants.{Counts, Clocks};
+ghost use Rattle.timing.specs.Timed.{begun, nth, coming, played, totalled, totalOf, timeOf, stored, reads, readsOf};
 use quantity::WattHours;
 use recorder::Event;
 use recorder::Recorder;
 use store::Class;
 
 // 449 days and 01:10, so that every room of the store has a day.
-const FULL: u64 = 38797800;
+const FULL: u32 = 38797800;
 
 const ALL_DAYS: u32 = 450;
+
+// Which events come, one after another.
+pub enum Kind {
+    Counts,
+    Clocks(u32),
+}
+
+// The i-th event: the counter goes on by one pulse each time, or the time by so many seconds.
+fn nth(kind: Kind, i: u32) -> Event
+    ensures { λ r. ⌜ r ≡ nth kind i ⌝ }
+{
+    match kind {
+        Kind::Counts => Event::Count(i),
+        Kind::Clocks(by) => Event::Clock((by as u64) * (i as u64)),
+    }
+}
 
 fn begun(values: &mut [u16], starts: &mut [u32], marks: &mut [u64]) -> Recorder
     ensures { λ r. ⌜ mem r (now (values .exit)) (now (starts .exit)) (now (marks .exit))
@@ -34,37 +50,34 @@ fn begun(values: &mut [u16], starts: &mut [u32], marks: &mut [u64]) -> Recorder
     s.recorder
 }
 
-fn stepped(
+// n events, each handing its recorder to the next. It is the one place that steps, as a recorder's program has one, so that the step becomes part of the loop.
+fn often(
     r: Recorder,
-    event: Event,
-    values: &mut [u16],
-    starts: &mut [u32],
-    marks: &mut [u64],
-) -> Recorder
-    ensures { λ q. ⌜ mem q (now (values .exit)) (now (starts .exit)) (now (marks .exit))
-        ≡ step (mem r (now (values .entry)) (now (starts .entry)) (now (marks .entry))) event .after ⌝ }
-{
-    let s = r.step(event, values, starts, marks);
-    s.recorder
-}
-
-fn count_often(
-    r: Recorder,
+    kind: Kind,
     values: &mut [u16],
     starts: &mut [u32],
     marks: &mut [u64],
     n: u32,
 ) -> Recorder
     ensures { λ q. ⌜ mem q (now (values .exit)) (now (starts .exit)) (now (marks .exit))
-        ≡ forTo counting 0 n (mem r (now (values .entry)) (now (starts .entry)) (now (marks .entry))) ⌝ }
+        ≡ forTo (coming kind) 0 n (mem r (now (values .entry)) (now (starts .entry)) (now (marks .entry))) ⌝ }
 {
     let mut q = r;
     let mut i: u32 = 0;
     while i < n {
-        q = stepped(q, Event::Count(i + 1), values, starts, marks);
         i += 1;
+        let s = q.step(nth(kind, i), values, starts, marks);
+        q = s.recorder;
     }
     q
+}
+
+fn played(kind: Kind, values: &mut [u16], starts: &mut [u32], marks: &mut [u64], n: u32) -> Recorder
+    ensures { λ q. ⌜ mem q (now (values .exit)) (now (starts .exit)) (now (marks .exit))
+        ≡ played kind n (store (now (values .entry)) (now (starts .entry)) (now (marks .entry))) ⌝ }
+{
+    let first = begun(values, starts, marks);
+    often(first, kind, values, starts, marks, n)
 }
 
 // n Counts of one pulse each; the total afterwards.
@@ -76,33 +89,10 @@ pub extern "C" fn timed_counts(
     n: u32,
 ) -> u64
     ensures { λ r. ⌜ totalled r (store (now (values .exit)) (now (starts .exit)) (now (marks .exit)))
-        ≡ totalOf (counted n (store (now (values .entry)) (now (starts .entry)) (now (marks .entry)))) ⌝ }
+        ≡ totalOf (played Counts n (store (now (values .entry)) (now (starts .entry)) (now (marks .entry)))) ⌝ }
 {
-    let first = begun(values, starts, marks);
-    let r = count_often(first, values, starts, marks, n);
+    let r = played(Kind::Counts, values, starts, marks, n);
     r.energy.total.0
-}
-
-fn clock_often(
-    r: Recorder,
-    values: &mut [u16],
-    starts: &mut [u32],
-    marks: &mut [u64],
-    n: u32,
-    by: u32,
-) -> Recorder
-    ensures { λ q. ⌜ mem q (now (values .exit)) (now (starts .exit)) (now (marks .exit))
-        ≡ forTo (clocking by) 0 n (mem r (now (values .entry)) (now (starts .entry)) (now (marks .entry))) ⌝ }
-{
-    let mut q = r;
-    let mut t: u64 = 0;
-    let mut i: u32 = 0;
-    while i < n {
-        t += by as u64;
-        q = stepped(q, Event::Clock(t), values, starts, marks);
-        i += 1;
-    }
-    q
 }
 
 // n Clocks, each so many seconds on; the time afterwards.
@@ -115,10 +105,9 @@ pub extern "C" fn timed_clocks(
     by: u32,
 ) -> u64
     ensures { λ r. ⌜ totalled r (store (now (values .exit)) (now (starts .exit)) (now (marks .exit)))
-        ≡ timeOf (clocked by n (store (now (values .entry)) (now (starts .entry)) (now (marks .entry)))) ⌝ }
+        ≡ timeOf (played (Clocks by) n (store (now (values .entry)) (now (starts .entry)) (now (marks .entry)))) ⌝ }
 {
-    let first = begun(values, starts, marks);
-    let r = clock_often(first, values, starts, marks, n, by);
+    let r = played(Kind::Clocks(by), values, starts, marks, n);
     r.clock.time
 }
 
@@ -155,7 +144,6 @@ pub extern "C" fn timed_reads(
         ≡ stored (store (now (values .entry)) (now (starts .entry)) (now (marks .entry))) .store)
         × (reads (now (out .exit)) r ≡ readsOf n (stored (store (now (values .entry)) (now (starts .entry)) (now (marks .entry)))) (now (out .entry))) ⌝ }
 {
-    let first = begun(values, starts, marks);
-    let r = stepped(first, Event::Clock(FULL), values, starts, marks);
+    let r = played(Kind::Clocks(FULL), values, starts, marks, 1);
     read_often(r, values, starts, marks, out, n)
 }

@@ -1,14 +1,10 @@
-use Rattle.timing.proofs.Laws.{counted-is}
-use borrow.Author.Needs.{needs}
+use Rattle.timing.proofs.Laws.{total-is}
 use borrow.Author.Needs.{needs}
 use Rattle.timing.proofs.timed_counts.Statement.{statement}
 use Rattle.timing.proofs.timed_counts.Tie as tie
 
-begun-requires : tie.Need-begun-requires
-begun-requires c κs = search needs
-
-count-often-requires : tie.Need-count-often-requires
-count-often-requires c κs = search needs
+played-requires : tie.Need-played-requires
+played-requires c κs = search needs
 
 same-length : tie.Need-same-length
 same-length c = search needs
@@ -20,11 +16,7 @@ same-length-3 : tie.Need-same-length-3
 same-length-3 c = search needs
 
 returns : tie.Need-returns
-returns c =
-    let k = c .before .before .before .before .before .before in
-    counted-is _ _ _ (k .before .before .before .before .before .before .before .before .before .before .begun .ensures) _ (k .count-often .ensures)
+returns c = total-is _ _ _ _ (c .before .before .before .before .before .before .played .ensures)
 
 pub timed-counts-spec : {M : Type 1} → statement M
-timed-counts-spec =
-    tie.close
-    (tie.spec begun-requires count-often-requires same-length same-length-2 same-length-3 returns)
+timed-counts-spec = tie.close (tie.spec played-requires same-length same-length-2 same-length-3 returns)

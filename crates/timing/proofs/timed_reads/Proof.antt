@@ -1,14 +1,10 @@
 use Rattle.timing.proofs.Laws.{store-is, reads-are}
 use borrow.Author.Needs.{needs}
-use borrow.Author.Needs.{needs}
 use Rattle.timing.proofs.timed_reads.Statement.{statement}
 use Rattle.timing.proofs.timed_reads.Tie as tie
 
-begun-requires : tie.Need-begun-requires
-begun-requires c κs = search needs
-
-stepped-requires : tie.Need-stepped-requires
-stepped-requires c κs = search needs
+played-requires : tie.Need-played-requires
+played-requires c κs = search needs
 
 read-often-requires : tie.Need-read-often-requires
 read-often-requires c κs = search needs
@@ -29,15 +25,13 @@ returns : tie.Need-returns
 returns c =
     let r = c .before .before in
     let k = r .before .before .before .before .before .before .before .before .before .before .before in
-    let b = k .before .before .before .before .before .before .before .before .before .before in
-    (store-is _ _ _ (b .begun .ensures) (k .stepped .ensures), reads-are _ _ _ (b .begun .ensures) _ _ _ (k .stepped .ensures) (r .read-often .ensures))
+    (store-is _ _ _ _ (k .played .ensures), reads-are _ _ _ _ _ _ _ (k .played .ensures) (r .read-often .ensures))
 
 pub timed-reads-spec : {M : Type 1} → statement M
 timed-reads-spec =
     tie.close
     (tie.spec
-    begun-requires
-    stepped-requires
+    played-requires
     read-often-requires
     same-length
     same-length-2

@@ -1,5 +1,4 @@
-use Rattle.recorder.proofs.Answers.{range-counts, no-class, wrong-length, out-of-range, event-judged}
-use borrow.Author.Needs.{needs}
+use Rattle.recorder.proofs.Answers.{in-halves, range-counts, no-class, wrong-length, out-of-range, event-judged}
 use borrow.Author.Needs.{needs}
 use Rattle.recorder.proofs.Recorder.answer.Statement.{statement}
 use Rattle.recorder.proofs.Recorder.answer.Tie as tie
@@ -19,14 +18,17 @@ returns-2 c = search wrong-length
 in-range-requires : tie.Need-in-range-requires
 in-range-requires c κs = search needs
 
+registers-ok-requires : tie.Need-registers-ok-requires
+registers-ok-requires c κs = search needs
+
 returns-3 : tie.Need-returns-3
-returns-3 c = search out-of-range
+returns-3 c = search (out-of-range, in-halves)
 
 event-answer-requires : tie.Need-event-answer-requires
-event-answer-requires c κs = search range-counts
+event-answer-requires c κs = search (range-counts, in-halves)
 
 returns-4 : tie.Need-returns-4
-returns-4 c = search event-judged
+returns-4 c = search (event-judged, in-halves)
 
 pub answer-spec : {M : Type 1} → statement M
 answer-spec =
@@ -37,6 +39,7 @@ answer-spec =
     fits-requires
     returns-2
     in-range-requires
+    registers-ok-requires
     returns-3
     event-answer-requires
     returns-4)

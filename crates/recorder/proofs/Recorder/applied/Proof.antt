@@ -1,73 +1,19 @@
-use Rattle.recorder.specs.Effect.{flagToday, after}
-use Rattle.recorder.proofs.Answers.{accepted-counts, accepted-resets, accepted-flags, accepted-clock, accepted-on}
-use borrow.Author.Needs.{needs}
+use Rattle.recorder.proofs.Effects.{told-goes, told-done}
 use borrow.Author.Needs.{needs}
 use Rattle.recorder.proofs.Recorder.applied.Statement.{statement}
 use Rattle.recorder.proofs.Recorder.applied.Tie as tie
 
-enum-known-event : tie.Need-enum-known-event
-enum-known-event c = search needs
+time-requires : tie.Need-time-requires
+time-requires c κs = search needs
 
-counted-requires : tie.Need-counted-requires
-counted-requires c κs = search accepted-counts
-
-enum-known-event-2 : tie.Need-enum-known-event-2
-enum-known-event-2 c = search needs
-
-advance-to-requires : tie.Need-advance-to-requires
-advance-to-requires c κs = accepted-clock _ _ _ _ _ (c .before .before .before .before .before .before .before .before .before .pre) _ (c .before .before .before .before .event2 .given .1)
+enum-known-t : tie.Need-enum-known-t
+enum-known-t c = search needs
 
 enum-told : tie.Need-enum-told
 enum-told c = search needs
 
-switched-off-requires : tie.Need-switched-off-requires
-switched-off-requires c κs = search needs
-
-enum-known-event-3 : tie.Need-enum-known-event-3
-enum-known-event-3 c = search needs
-
-turn-on-requires : tie.Need-turn-on-requires
-turn-on-requires c κs = accepted-on _ _ _ _ _ (c .before .before .before .before .before .before .before .before .before .pre) _ (c .before .before .before .before .event3 .given .1)
-
-enum-told-2 : tie.Need-enum-told-2
-enum-told-2 c = search needs
-
-accessed-requires : tie.Need-accessed-requires
-accessed-requires c κs = search needs
-
-enum-known-event-4 : tie.Need-enum-known-event-4
-enum-known-event-4 c = search needs
-
-flag-today-requires : tie.Need-flag-today-requires
-flag-today-requires c κs = accepted-flags _ _ _ _ _ (c .before .before .before .before .before .before .before .pre)
-
-metered-requires : tie.Need-metered-requires
-metered-requires c κs = search needs
-
-enum-told-3 : tie.Need-enum-told-3
-enum-told-3 c = search needs
-
-flag-today-requires-2 : tie.Need-flag-today-requires-2
-flag-today-requires-2 c κs = accepted-flags _ _ _ _ _ (c .before .before .before .before .before .before .pre)
-
-was-reset-requires : tie.Need-was-reset-requires
-was-reset-requires c κs = accepted-resets _ _ _ _ _ (c .before .before .before .before .before .before .before .before .before .pre)
-
-enum-known-event-5 : tie.Need-enum-known-event-5
-enum-known-event-5 c = search needs
-
-rate-is-requires : tie.Need-rate-is-requires
-rate-is-requires c κs = search needs
-
-enum-told-4 : tie.Need-enum-told-4
-enum-told-4 c = search needs
-
-reversed-requires : tie.Need-reversed-requires
-reversed-requires c κs = search needs
-
-returns : tie.Need-returns
-unfolding after
-returns c = rw (c .before .before .event .given .1, c .counted .ensures)
+changed-requires : tie.Need-changed-requires
+changed-requires c κs = search needs
 
 same-length : tie.Need-same-length
 same-length c = search needs
@@ -78,13 +24,11 @@ same-length-2 c = search needs
 same-length-3 : tie.Need-same-length-3
 same-length-3 c = search needs
 
-returns-2 : tie.Need-returns-2
-unfolding after
-returns-2 c = rw (c .before .before .before .before .before .before .before .before .before .before .before .event2 .given .1) (c .before .before .before .before .before .before .advance-to .ensures)
+returns : tie.Need-returns
+returns c = search needs
 
-returns-3 : tie.Need-returns-3
-unfolding after
-returns-3 c = rw (c .before .enum-told .given .1, c .switched-off .ensures)
+told-requires : tie.Need-told-requires
+told-requires c κs = search told-goes
 
 same-length-4 : tie.Need-same-length-4
 same-length-4 c = search needs
@@ -95,74 +39,23 @@ same-length-5 c = search needs
 same-length-6 : tie.Need-same-length-6
 same-length-6 c = search needs
 
-returns-4 : tie.Need-returns-4
-unfolding after
-returns-4 c = rw (c .before .before .before .before .before .before .before .before .before .before .before .event3 .given .1) (c .before .before .before .before .before .before .turn-on .ensures)
-
-returns-5 : tie.Need-returns-5
-unfolding after
-returns-5 c = rw (c .before .enum-told2 .given .1, c .accessed .ensures)
-
-same-length-7 : tie.Need-same-length-7
-same-length-7 c = search needs
-
-returns-6 : tie.Need-returns-6
-unfolding after flagToday
-returns-6 c = rw (c .before .before .before .before .before .before .event4 .given .1, c .metered .ensures, c .before .before .before .flag-today .ensures)
-
-same-length-8 : tie.Need-same-length-8
-same-length-8 c = search needs
-
-returns-7 : tie.Need-returns-7
-unfolding after flagToday
-returns-7 c = rw (c .before .before .before .before .before .enum-told3 .given .1, c .was-reset .ensures, c .before .before .before .flag-today2 .ensures)
-
-returns-8 : tie.Need-returns-8
-unfolding after
-returns-8 c = rw (c .before .before .event5 .given .1, c .rate-is .ensures)
-
-returns-9 : tie.Need-returns-9
-unfolding after
-returns-9 c = rw (c .before .enum-told4 .given .1, c .reversed .ensures)
+returns-2 : tie.Need-returns-2
+returns-2 c = search told-done
 
 pub applied-spec : {M : Type 1} → statement M
 applied-spec =
     tie.close
     (tie.spec
-    enum-known-event
-    counted-requires
-    enum-known-event-2
-    advance-to-requires
+    time-requires
+    enum-known-t
     enum-told
-    switched-off-requires
-    enum-known-event-3
-    turn-on-requires
-    enum-told-2
-    accessed-requires
-    enum-known-event-4
-    flag-today-requires
-    metered-requires
-    enum-told-3
-    flag-today-requires-2
-    was-reset-requires
-    enum-known-event-5
-    rate-is-requires
-    enum-told-4
-    reversed-requires
-    returns
+    changed-requires
     same-length
     same-length-2
     same-length-3
-    returns-2
-    returns-3
+    returns
+    told-requires
     same-length-4
     same-length-5
     same-length-6
-    returns-4
-    returns-5
-    same-length-7
-    returns-6
-    same-length-8
-    returns-7
-    returns-8
-    returns-9)
+    returns-2)

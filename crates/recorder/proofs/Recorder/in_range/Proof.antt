@@ -1,5 +1,4 @@
-use Rattle.recorder.specs.Range.{inRange}
-use borrow.Author.Needs.{needs}
+use Rattle.recorder.proofs.Answers.{in-halves}
 use borrow.Author.Needs.{needs}
 use Rattle.recorder.proofs.Recorder.in_range.Statement.{statement}
 use Rattle.recorder.proofs.Recorder.in_range.Tie as tie
@@ -10,26 +9,11 @@ in-range-requires c κs = search needs
 cap-requires : tie.Need-cap-requires
 cap-requires c κs = search needs
 
-in-range-requires-2 : tie.Need-in-range-requires-2
-in-range-requires-2 c κs = search needs
-
-in-range-requires-3 : tie.Need-in-range-requires-3
-in-range-requires-3 c κs = search needs
-
-in-range-requires-4 : tie.Need-in-range-requires-4
-in-range-requires-4 c κs = search needs
+registers-ok-requires : tie.Need-registers-ok-requires
+registers-ok-requires c κs = search needs
 
 returns : tie.Need-returns
-unfolding inRange
-returns c = cc
+returns c = search in-halves
 
 pub in-range-spec : {M : Type 1} → statement M
-in-range-spec =
-    tie.close
-    (tie.spec
-    in-range-requires
-    cap-requires
-    in-range-requires-2
-    in-range-requires-3
-    in-range-requires-4
-    returns)
+in-range-spec = tie.close (tie.spec in-range-requires cap-requires registers-ok-requires returns)

@@ -1,6 +1,5 @@
 use Rattle.registers.specs.Energy.{energyCounted}
 use borrow.Author.Needs.{needs}
-use borrow.Author.Needs.{needs}
 use Rattle.registers.proofs.Energy.counted.Statement.{statement}
 use Rattle.registers.proofs.Energy.counted.Tie as tie
 
@@ -16,8 +15,8 @@ cast-at c = search needs
 mul-register : tie.Need-mul-register
 mul-register c = search needs
 
-array-copy-out-register : tie.Need-array-copy-out-register
-array-copy-out-register c = search needs
+element-copy-out-register : tie.Need-element-copy-out-register
+element-copy-out-register c = search needs
 
 plus-requires : tie.Need-plus-requires
 plus-requires c κs = search needs
@@ -25,11 +24,11 @@ plus-requires c κs = search needs
 plus-requires-2 : tie.Need-plus-requires-2
 plus-requires-2 c κs = search needs
 
-mul-t10 : tie.Need-mul-t10
-mul-t10 c = search needs
+mul-t12 : tie.Need-mul-t12
+mul-t12 c = search needs
 
-element-set-from-next : tie.Need-element-set-from-next
-element-set-from-next c = search needs
+element-set-from-self : tie.Need-element-set-from-self
+element-set-from-self c = search needs
 
 returns : tie.Need-returns
 unfolding energyCounted
@@ -43,9 +42,9 @@ counted-spec =
     sub-at
     cast-at
     mul-register
-    array-copy-out-register
+    element-copy-out-register
     plus-requires
     plus-requires-2
-    mul-t10
-    element-set-from-next
+    mul-t12
+    element-set-from-self
     returns)

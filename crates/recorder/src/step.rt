@@ -1,0 +1,388 @@
+// A step: the answer to an event, what an accepted one does to recorder and store, and the entry that does it.
+ghost use mathlib.Core.Path.{_≡_};
+ghost use mathlib.Core.Bool.{not, cond};
+ghost use Prim.Native.Nat.{max, _+_, _-_};
+ghost use lib.Dec.{ltb};
+ghost use Rattle.registers.specs.Energy.{Countable, rateOk};
+ghost use Rattle.store.specs.Store.{store, flagAt, flagged};
+ghost use Rattle.recorder.specs.Recorder.{mem, capOf, todayOf, withClock};
+ghost use Rattle.recorder.specs.Boundary.{ended, storeAt, advanceTo};
+ghost use Rattle.recorder.specs.Effect.{counted, lastIs, rateIs, wasReset, switchedOff, accessed, reversed, firstFlagged, after};
+ghost use Rattle.recorder.specs.declared.step.Told.the-variants.{Not};
+ghost use Rattle.recorder.specs.Answer.{inTime, mostUnits, unitsAfter, eventAnswer, answerWith, answerOf};
+ghost use Rattle.recorder.specs.Step.{done, step};
+ghost use Rattle.recorder.specs.Needs.{Good, Goes, Resets, Flaggable, timeIn, told};
+use crate::Event;
+use crate::Recorder;
+use crate::Stepped;
+use crate::registers_ok;
+use registers::Present;
+
+const MOST_UNITS: u64 = 9999;
+
+const POWER_LOST: u64 = 0x80;
+
+const METER_CHANGED: u64 = 0x40;
+
+const DEMAND_RESET: u64 = 0x20;
+
+fn larger(a: u32, b: u32) -> u32
+    ensures { λ r. ⌜ r ≡ max a b ⌝ }
+{
+    if a < b { b } else { a }
+}
+
+fn less(a: u32, b: u32) -> u32
+    ensures { λ r. ⌜ r ≡ a - b ⌝ }
+{
+    if a < b { 0 } else { a - b }
+}
+
+// The number where the test fails, else what comes next.
+fn first_of(fails: bool, number: u32, next: u32) -> u32
+    ensures { λ r. ⌜ r ≡ cond fails number next ⌝ }
+{
+    if fails { number } else { next }
+}
+
+// The answers that power, a time and a rate give.
+fn power_answer(wrong: bool) -> u32
+    ensures { λ r. ⌜ r ≡ cond wrong 1 0 ⌝ }
+{
+    first_of(wrong, 1, 0)
+}
+
+fn time_answer(wrong: bool, now: u64, t: u64) -> u32
+    ensures { λ r. ⌜ r ≡ cond wrong 1 (cond (not (inTime now t)) 2 0) ⌝ }
+{
+    first_of(
+        wrong,
+        1,
+        first_of(!((now <= t) & (t < calendar::TIMES_IN_ALL)), 2, 0),
+    )
+}
+
+fn rate_answer(wrong: bool, n: u32) -> u32
+    ensures { λ r. ⌜ r ≡ cond wrong 1 (cond (not (rateOk n)) 6 0) ⌝ }
+{
+    first_of(wrong, 1, first_of(!registers::rate_ok(n), 6, 0))
+}
+
+// The time that it is, if an event tells it.
+pub enum Told {
+    Is(u64),
+    Not,
+}
+
+impl Event {
+    fn time(self) -> Told
+        ensures { λ r. ⌜ r ≡ timeIn self ⌝ }
+    {
+        match self {
+            Event::Count(_) => Told::Not,
+            Event::Clock(t) => Told::Is(t),
+            Event::Off => Told::Not,
+            Event::On(t) => Told::Is(t),
+            Event::Access => Told::Not,
+            Event::Meter(_) => Told::Not,
+            Event::Reset => Told::Not,
+            Event::Rate(_) => Told::Not,
+            Event::Reverse => Told::Not,
+        }
+    }
+}
+
+impl Recorder {
+    // ---- answers
+
+    // A Count's answer.
+    fn count_answer(self, c: u32) -> u32
+        requires { ⌜ Countable (self .identity .weight) (self .energy) ⌝ }
+        ensures { λ r. ⌜ r ≡ cond (not (self .clock .on)) 1 (cond (ltb mostUnits (unitsAfter self c)) 3 0) ⌝ }
+    {
+        let identity = self.identity;
+        let running = self.running;
+        let energy = self.energy;
+        let units = energy.units_with(identity.weight, running.base, c);
+        first_of(!self.clock.on, 1, first_of(MOST_UNITS < units.0, 3, 0))
+    }
+
+    // The answer to an event, of a recorder in range with a store of its lengths.
+    fn event_answer(self, event: Event) -> u32
+        requires { ⌜ Countable (self .identity .weight) (self .energy) ⌝ }
+        ensures { λ r. ⌜ r ≡ eventAnswer (self .clock .on) (self .clock .time) (unitsAfter self) event ⌝ }
+    {
+        let on = self.clock.on;
+        let now = self.clock.time;
+        match event {
+            Event::Count(c) => self.count_answer(c),
+            Event::Clock(t) => time_answer(!on, now, t),
+            Event::Off => power_answer(!on),
+            Event::On(t) => time_answer(on, now, t),
+            Event::Access => power_answer(!on),
+            Event::Meter(_) => power_answer(!on),
+            Event::Reset => power_answer(!on),
+            Event::Rate(n) => rate_answer(!on, n),
+            Event::Reverse => power_answer(!on),
+        }
+    }
+
+    // The answer to an event, with a store of these lengths.
+    fn answer(self, event: Event, values: usize, starts: usize, marks: usize) -> u32
+        ensures { λ r. ⌜ r ≡ answerWith self event values starts marks ⌝ }
+    {
+        let identity = self.identity;
+        let class = identity.class;
+        let cap = class.days();
+        if cap == 0 {
+            return 5;
+        }
+        if !class.fits(values, starts, marks) {
+            return 4;
+        }
+        let good = identity.in_range()
+            & registers_ok(cap, self.clock, self.energy, self.demand, self.running);
+        if !good {
+            return 5;
+        }
+        self.event_answer(event)
+    }
+
+    // ---- effects on the recorder alone
+
+    fn counted(mut self, c: u32) -> Recorder
+        requires { ⌜ Countable (self .identity .weight) (self .energy) ⌝ }
+        ensures { λ r. ⌜ r ≡ counted c self ⌝ }
+    {
+        let identity = self.identity;
+        let energy = self.energy;
+        self.energy = energy.counted(identity.weight, c);
+        self
+    }
+
+    // Another meter, whose counter stands at c.
+    fn metered(mut self, c: u32) -> Recorder
+        ensures { λ r. ⌜ r ≡ accessed (lastIs c self) ⌝ }
+    {
+        self.energy.last = c;
+        self.running.level2 = true;
+        self
+    }
+
+    fn rate_is(mut self, n: u32) -> Recorder
+        ensures { λ r. ⌜ r ≡ rateIs n self ⌝ }
+    {
+        self.energy.rate = n;
+        self
+    }
+
+    fn switched_off(mut self) -> Recorder
+        ensures { λ r. ⌜ r ≡ switchedOff self ⌝ }
+    {
+        self.clock.on = false;
+        self
+    }
+
+    fn accessed(mut self) -> Recorder
+        ensures { λ r. ⌜ r ≡ accessed self ⌝ }
+    {
+        self.running.level2 = true;
+        self
+    }
+
+    fn reversed(mut self) -> Recorder
+        ensures { λ r. ⌜ r ≡ reversed self ⌝ }
+    {
+        self.running.reverse = true;
+        self
+    }
+
+    fn was_reset(mut self) -> Recorder
+        requires { ⌜ Resets self ⌝ }
+        ensures { λ r. ⌜ r ≡ accessed (wasReset self) ⌝ }
+    {
+        let clock = self.clock;
+        let demand = self.demand;
+        self.demand = demand.reset_on(clock.today());
+        self.running.level2 = true;
+        self
+    }
+
+    // The running half-hour ends.
+    fn ended(mut self) -> Recorder
+        ensures { λ r. ⌜ r ≡ ended self ⌝ }
+    {
+        let energy = self.energy;
+        let running = self.running;
+        let demand = self.demand;
+        self.demand = demand.closed(energy, running);
+        self.running = energy.begun();
+        self
+    }
+
+    fn with_clock(mut self, clock: Present) -> Recorder
+        ensures { λ r. ⌜ r ≡ withClock clock self ⌝ }
+    {
+        self.clock = clock;
+        self
+    }
+
+    // ---- effects on the store
+
+    // The store when time has gone on to a later half-hour.
+    fn carry_to(self, to: u32, values: &mut [u16], starts: &mut [u32], marks: &mut [u64])
+        requires { ⌜ Good (mem self (now values) (now starts) (now marks)) ⌝ }
+        ensures { λ _. ⌜ store (now (values .exit)) (now (starts .exit)) (now (marks .exit))
+            ≡ storeAt to self (store (now (values .entry)) (now (starts .entry)) (now (marks .entry))) ⌝ }
+    {
+        let clock = self.clock;
+        let energy = self.energy;
+        let running = self.running;
+        store::go_on(
+            self.cap(),
+            clock.half(),
+            to,
+            energy.total.reading(),
+            running.reverse,
+            running.level2,
+            values,
+            starts,
+            marks,
+        );
+    }
+
+    // Time goes on to t: each boundary passed closes a half-hour.
+    fn advance_to(
+        self,
+        t: u64,
+        values: &mut [u16],
+        starts: &mut [u32],
+        marks: &mut [u64],
+    ) -> Recorder
+        requires { ⌜ Goes t (mem self (now values) (now starts) (now marks)) ⌝ }
+        ensures { λ r. ⌜ mem r (now (values .exit)) (now (starts .exit)) (now (marks .exit))
+            ≡ advanceTo t (mem self (now (values .entry)) (now (starts .entry)) (now (marks .entry))) ⌝ }
+    {
+        let clock = self.clock;
+        let next = clock.gone_to(self.cap(), t);
+        let to = next.half();
+        if clock.half() == to {
+            return self.with_clock(next);
+        }
+        self.carry_to(to, values, starts, marks);
+        self.ended().with_clock(next)
+    }
+
+    // Today gets a flag.
+    fn flag_today(self, flag: u64, marks: &mut [u64])
+        requires { ⌜ Flaggable self (now marks) ⌝ }
+        ensures { λ _. ⌜ now (marks .exit) ≡ flagAt (capOf self) flag (todayOf self) (now (marks .entry)) ⌝ }
+    {
+        let clock = self.clock;
+        store::flag_day(self.cap(), clock.today(), flag, marks);
+    }
+
+    // Every stored day from one on to today gets it.
+    fn flag_from(self, from: u32, flag: u64, marks: &mut [u64])
+        requires { ⌜ Flaggable self (now marks) ⌝ }
+        ensures { λ _. ⌜ now (marks .exit) ≡ flagged (capOf self) (firstFlagged self from) (todayOf self + 1) flag (now (marks .entry)) ⌝ }
+    {
+        let clock = self.clock;
+        let end = clock.today() + 1;
+        let first = larger(from, less(end, clock.days));
+        store::flag_days(self.cap(), first, end, flag, marks);
+    }
+
+    // Clock(t) and On(t). The one is accepted while power is on, the other while it is off, and its days get a flag.
+    fn told(self, t: u64, values: &mut [u16], starts: &mut [u32], marks: &mut [u64]) -> Recorder
+        requires { ⌜ Goes t (mem self (now values) (now starts) (now marks)) ⌝ }
+        ensures { λ r. ⌜ mem r (now (values .exit)) (now (starts .exit)) (now (marks .exit))
+            ≡ told t (mem self (now (values .entry)) (now (starts .entry)) (now (marks .entry))) ⌝ }
+    {
+        let clock = self.clock;
+        let next = self.advance_to(t, values, starts, marks);
+        if clock.on {
+            return next;
+        }
+        next.flag_from(clock.today(), POWER_LOST, marks);
+        next
+    }
+
+    // What an accepted event of the others does.
+    fn changed(
+        self,
+        event: Event,
+        values: &mut [u16],
+        starts: &mut [u32],
+        marks: &mut [u64],
+    ) -> Recorder
+        requires { ⌜ (answerOf (mem self (now values) (now starts) (now marks)) event ≡ 0) × (timeIn event ≡ Not) ⌝ }
+        ensures { λ r. ⌜ mem r (now (values .exit)) (now (starts .exit)) (now (marks .exit))
+            ≡ after (mem self (now (values .entry)) (now (starts .entry)) (now (marks .entry))) event ⌝ }
+    {
+        match event {
+            Event::Count(c) => self.counted(c),
+            Event::Clock(_) => self,
+            Event::Off => self.switched_off(),
+            Event::On(_) => self,
+            Event::Access => self.accessed(),
+            Event::Meter(c) => {
+                self.flag_today(METER_CHANGED, marks);
+                self.metered(c)
+            }
+            Event::Reset => {
+                self.flag_today(DEMAND_RESET, marks);
+                self.was_reset()
+            }
+            Event::Rate(n) => self.rate_is(n),
+            Event::Reverse => self.reversed(),
+        }
+    }
+
+    // What an accepted event does. Time goes on in one place, so that all of it becomes part of the caller's loop.
+    fn applied(
+        self,
+        event: Event,
+        values: &mut [u16],
+        starts: &mut [u32],
+        marks: &mut [u64],
+    ) -> Recorder
+        requires { ⌜ answerOf (mem self (now values) (now starts) (now marks)) event ≡ 0 ⌝ }
+        ensures { λ r. ⌜ mem r (now (values .exit)) (now (starts .exit)) (now (marks .exit))
+            ≡ after (mem self (now (values .entry)) (now (starts .entry)) (now (marks .entry))) event ⌝ }
+    {
+        let Told::Is(t) = event.time() else {
+            return self.changed(event, values, starts, marks);
+        };
+        self.told(t, values, starts, marks)
+    }
+
+    // ---- the entry
+
+    // The recorder after an event, with the answer.
+    pub fn step(
+        self,
+        event: Event,
+        values: &mut [u16],
+        starts: &mut [u32],
+        marks: &mut [u64],
+    ) -> Stepped
+        ensures { λ r. ⌜ done r (now (values .exit)) (now (starts .exit)) (now (marks .exit))
+            ≡ step (mem self (now (values .entry)) (now (starts .entry)) (now (marks .entry))) event ⌝ }
+    {
+        let answer = self.answer(event, values.len(), starts.len(), marks.len());
+        if answer != 0 {
+            return Stepped {
+                recorder: self,
+                answer: answer,
+                carried: 0,
+            };
+        }
+        let next = self.applied(event, values, starts, marks);
+        Stepped {
+            recorder: next,
+            answer: 0,
+            carried: 0,
+        }
+    }
+}
