@@ -1,6 +1,5 @@
 use Rattle.script.specs.Hex.{byteIn}
 use borrow.Author.Needs.{needs}
-use borrow.Author.Needs.{needs}
 use Rattle.script.proofs.byte_in.Statement.{statement}
 use Rattle.script.proofs.byte_in.Tie as tie
 

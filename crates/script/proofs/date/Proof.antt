@@ -1,6 +1,5 @@
 use Rattle.script.proofs.Numbers.{no-date, six-below, unreal-date, real-date}
 use borrow.Author.Needs.{needs}
-use borrow.Author.Needs.{needs}
 use Rattle.script.proofs.date.Statement.{statement}
 use Rattle.script.proofs.date.Tie as tie
 

@@ -1,6 +1,5 @@
 use Rattle.script.proofs.Numbers.{empty-day, raw-day, dated-day}
 use borrow.Author.Needs.{needs}
-use borrow.Author.Needs.{needs}
 use Rattle.script.proofs.day.Statement.{statement}
 use Rattle.script.proofs.day.Tie as tie
 

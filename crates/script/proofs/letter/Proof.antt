@@ -1,6 +1,5 @@
 use Rattle.script.proofs.Digits.{figure-letter, small-letter}
 use borrow.Author.Needs.{needs}
-use borrow.Author.Needs.{needs}
 use Rattle.script.proofs.letter.Statement.{statement}
 use Rattle.script.proofs.letter.Tie as tie
 

@@ -1,6 +1,5 @@
 use Rattle.script.proofs.Digits.{high-letter, low-letter}
 use borrow.Author.Needs.{needs}
-use borrow.Author.Needs.{needs}
 use Rattle.script.proofs.letter_at.Statement.{statement}
 use Rattle.script.proofs.letter_at.Tie as tie
 

@@ -1,7 +1,6 @@
 use native.Mathlib.Omega.{arith}
 use Rattle.script.proofs.Words.{line-none, line-found}
 use borrow.Author.Needs.{needs}
-use borrow.Author.Needs.{needs}
 use Rattle.script.proofs.line_end.Statement.{statement}
 use Rattle.script.proofs.line_end.Tie as tie
 

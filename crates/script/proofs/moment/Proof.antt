@@ -1,6 +1,5 @@
 use Rattle.script.proofs.Numbers.{six-below, no-first, no-last, unreal-moment, real-moment}
 use borrow.Author.Needs.{needs}
-use borrow.Author.Needs.{needs}
 use Rattle.script.proofs.moment.Statement.{statement}
 use Rattle.script.proofs.moment.Tie as tie
 

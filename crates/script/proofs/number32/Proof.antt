@@ -1,6 +1,5 @@
 use Rattle.script.proofs.Numbers.{no-small, is-small, not-small}
 use borrow.Author.Needs.{needs}
-use borrow.Author.Needs.{needs}
 use Rattle.script.proofs.number32.Statement.{statement}
 use Rattle.script.proofs.number32.Tie as tie
 

@@ -1,6 +1,5 @@
 use Rattle.script.proofs.Numbers.{empty-second, raw-second, no-second}
 use borrow.Author.Needs.{needs}
-use borrow.Author.Needs.{needs}
 use Rattle.script.proofs.second.Statement.{statement}
 use Rattle.script.proofs.second.Tie as tie
 

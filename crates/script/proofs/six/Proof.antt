@@ -1,6 +1,5 @@
 use Rattle.script.proofs.Numbers.{no-six, is-six}
 use borrow.Author.Needs.{needs}
-use borrow.Author.Needs.{needs}
 use Rattle.script.proofs.six.Statement.{statement}
 use Rattle.script.proofs.six.Tie as tie
 

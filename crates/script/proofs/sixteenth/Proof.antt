@@ -1,7 +1,6 @@
 use native.Mathlib.Omega.{arith}
 use Rattle.script.proofs.Digits.{of-figure, of-capital, of-small}
 use borrow.Author.Needs.{needs}
-use borrow.Author.Needs.{needs}
 use Rattle.script.proofs.sixteenth.Statement.{statement}
 use Rattle.script.proofs.sixteenth.Tie as tie
 

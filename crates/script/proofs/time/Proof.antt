@@ -1,6 +1,5 @@
 use Rattle.script.proofs.Numbers.{one-word, before-first, too-far, two-words}
 use borrow.Author.Needs.{needs}
-use borrow.Author.Needs.{needs}
 use Rattle.script.proofs.time.Statement.{statement}
 use Rattle.script.proofs.time.Tie as tie
 

@@ -1,6 +1,5 @@
 use Rattle.script.proofs.Words.{word-is}
 use borrow.Author.Needs.{needs}
-use borrow.Author.Needs.{needs}
 use Rattle.script.proofs.word.Statement.{statement}
 use Rattle.script.proofs.word.Tie as tie
 

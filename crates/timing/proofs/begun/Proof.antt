@@ -1,6 +1,5 @@
 use Rattle.timing.proofs.Laws.{set-up-after}
 use borrow.Author.Needs.{needs}
-use borrow.Author.Needs.{needs}
 use Rattle.timing.proofs.begun.Statement.{statement}
 use Rattle.timing.proofs.begun.Tie as tie
 

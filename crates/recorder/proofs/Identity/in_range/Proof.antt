@@ -1,5 +1,4 @@
 use borrow.Author.Needs.{needs}
-use borrow.Author.Needs.{needs}
 use Rattle.recorder.proofs.Identity.in_range.Statement.{statement}
 use Rattle.recorder.proofs.Identity.in_range.Tie as tie
 

@@ -1,6 +1,5 @@
 use Rattle.recorder.proofs.Boundaries.{still-here, gone-on}
 use borrow.Author.Needs.{needs}
-use borrow.Author.Needs.{needs}
 use Rattle.recorder.proofs.Recorder.advance_to.Statement.{statement}
 use Rattle.recorder.proofs.Recorder.advance_to.Tie as tie
 

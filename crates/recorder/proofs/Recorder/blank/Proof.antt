@@ -1,6 +1,5 @@
 use Rattle.recorder.specs.SetUp.{blank}
 use borrow.Author.Needs.{needs}
-use borrow.Author.Needs.{needs}
 use Rattle.recorder.proofs.Recorder.blank.Statement.{statement}
 use Rattle.recorder.proofs.Recorder.blank.Tie as tie
 

@@ -1,6 +1,5 @@
 use Rattle.recorder.proofs.Boundaries.{carry-goes, carried-on}
 use borrow.Author.Needs.{needs}
-use borrow.Author.Needs.{needs}
 use Rattle.recorder.proofs.Recorder.carry_to.Statement.{statement}
 use Rattle.recorder.proofs.Recorder.carry_to.Tie as tie
 

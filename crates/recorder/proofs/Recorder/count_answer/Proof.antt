@@ -1,6 +1,5 @@
 use Rattle.recorder.proofs.Answers.{count-judged}
 use borrow.Author.Needs.{needs}
-use borrow.Author.Needs.{needs}
 use Rattle.recorder.proofs.Recorder.count_answer.Statement.{statement}
 use Rattle.recorder.proofs.Recorder.count_answer.Tie as tie
 

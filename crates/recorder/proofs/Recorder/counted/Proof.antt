@@ -1,5 +1,4 @@
 use borrow.Author.Needs.{needs}
-use borrow.Author.Needs.{needs}
 use Rattle.recorder.proofs.Recorder.counted.Statement.{statement}
 use Rattle.recorder.proofs.Recorder.counted.Tie as tie
 

@@ -1,6 +1,5 @@
 use Rattle.recorder.specs.Boundary.{ended}
 use borrow.Author.Needs.{needs}
-use borrow.Author.Needs.{needs}
 use Rattle.recorder.proofs.Recorder.ended.Statement.{statement}
 use Rattle.recorder.proofs.Recorder.ended.Tie as tie
 

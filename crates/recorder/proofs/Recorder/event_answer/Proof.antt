@@ -1,6 +1,5 @@
 use Rattle.recorder.specs.Answer.{wrongPower, eventAnswer}
 use borrow.Author.Needs.{needs}
-use borrow.Author.Needs.{needs}
 use Rattle.recorder.proofs.Recorder.event_answer.Statement.{statement}
 use Rattle.recorder.proofs.Recorder.event_answer.Tie as tie
 

@@ -1,5 +1,4 @@
 use borrow.Author.Needs.{needs}
-use borrow.Author.Needs.{needs}
 use Rattle.recorder.proofs.Recorder.flag_from.Statement.{statement}
 use Rattle.recorder.proofs.Recorder.flag_from.Tie as tie
 

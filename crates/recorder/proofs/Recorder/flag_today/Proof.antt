@@ -1,5 +1,4 @@
 use borrow.Author.Needs.{needs}
-use borrow.Author.Needs.{needs}
 use Rattle.recorder.proofs.Recorder.flag_today.Statement.{statement}
 use Rattle.recorder.proofs.Recorder.flag_today.Tie as tie
 

@@ -1,6 +1,5 @@
 use Rattle.recorder.proofs.Setting.{begins, set-up-refused, set-up-done}
 use borrow.Author.Needs.{needs}
-use borrow.Author.Needs.{needs}
 use Rattle.recorder.proofs.Recorder.set_up.Statement.{statement}
 use Rattle.recorder.proofs.Recorder.set_up.Tie as tie
 

@@ -1,6 +1,5 @@
 use Rattle.recorder.specs.SetUp.{started}
 use borrow.Author.Needs.{needs}
-use borrow.Author.Needs.{needs}
 use Rattle.recorder.proofs.Recorder.started.Statement.{statement}
 use Rattle.recorder.proofs.Recorder.started.Tie as tie
 

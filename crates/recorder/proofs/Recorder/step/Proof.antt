@@ -1,6 +1,5 @@
 use Rattle.recorder.proofs.Effects.{step-refused, step-accepted, step-done}
 use borrow.Author.Needs.{needs}
-use borrow.Author.Needs.{needs}
 use Rattle.recorder.proofs.Recorder.step.Statement.{statement}
 use Rattle.recorder.proofs.Recorder.step.Tie as tie
 

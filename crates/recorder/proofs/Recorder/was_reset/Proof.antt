@@ -1,5 +1,4 @@
 use borrow.Author.Needs.{needs}
-use borrow.Author.Needs.{needs}
 use Rattle.recorder.proofs.Recorder.was_reset.Statement.{statement}
 use Rattle.recorder.proofs.Recorder.was_reset.Tie as tie
 

@@ -1,6 +1,5 @@
 use Rattle.recorder.proofs.Setting.{bad-value, bad-length, set-up-passed}
 use borrow.Author.Needs.{needs}
-use borrow.Author.Needs.{needs}
 use Rattle.recorder.proofs.SetUp.answer.Statement.{statement}
 use Rattle.recorder.proofs.SetUp.answer.Tie as tie
 

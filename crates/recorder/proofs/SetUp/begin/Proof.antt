@@ -1,6 +1,5 @@
 use Rattle.recorder.proofs.Setting.{store-goes, store-begun}
 use borrow.Author.Needs.{needs}
-use borrow.Author.Needs.{needs}
 use Rattle.recorder.proofs.SetUp.begin.Statement.{statement}
 use Rattle.recorder.proofs.SetUp.begin.Tie as tie
 

@@ -1,6 +1,5 @@
 use Rattle.recorder.specs.SetUp.{fresh}
 use borrow.Author.Needs.{needs}
-use borrow.Author.Needs.{needs}
 use Rattle.recorder.proofs.SetUp.fresh.Statement.{statement}
 use Rattle.recorder.proofs.SetUp.fresh.Tie as tie
 

@@ -1,5 +1,4 @@
 use borrow.Author.Needs.{needs}
-use borrow.Author.Needs.{needs}
 use Rattle.recorder.proofs.step.time_answer.Statement.{statement}
 use Rattle.recorder.proofs.step.time_answer.Tie as tie
 

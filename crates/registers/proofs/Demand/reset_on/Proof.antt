@@ -1,5 +1,4 @@
 use borrow.Author.Needs.{needs}
-use borrow.Author.Needs.{needs}
 use Rattle.registers.proofs.Demand.reset_on.Statement.{statement}
 use Rattle.registers.proofs.Demand.reset_on.Tie as tie
 

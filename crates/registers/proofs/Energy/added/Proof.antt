@@ -1,7 +1,6 @@
 use Rattle.registers.specs.Energy.{addedOf}
 use Rattle.registers.proofs.Laws.{added-few, added-fits}
 use borrow.Author.Needs.{needs}
-use borrow.Author.Needs.{needs}
 use Rattle.registers.proofs.Energy.added.Statement.{statement}
 use Rattle.registers.proofs.Energy.added.Tie as tie
 

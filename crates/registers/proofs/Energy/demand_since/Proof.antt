@@ -1,5 +1,4 @@
 use borrow.Author.Needs.{needs}
-use borrow.Author.Needs.{needs}
 use Rattle.registers.proofs.Energy.demand_since.Statement.{statement}
 use Rattle.registers.proofs.Energy.demand_since.Tie as tie
 

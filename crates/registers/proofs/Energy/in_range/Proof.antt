@@ -1,5 +1,4 @@
 use borrow.Author.Needs.{needs}
-use borrow.Author.Needs.{needs}
 use Rattle.registers.proofs.Energy.in_range.Statement.{statement}
 use Rattle.registers.proofs.Energy.in_range.Tie as tie
 

@@ -1,6 +1,5 @@
 use Rattle.registers.proofs.Laws.{sum-fits, then-more, units-fit, units-done}
 use borrow.Author.Needs.{needs}
-use borrow.Author.Needs.{needs}
 use Rattle.registers.proofs.Energy.units_with.Statement.{statement}
 use Rattle.registers.proofs.Energy.units_with.Tie as tie
 

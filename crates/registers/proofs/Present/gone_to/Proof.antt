@@ -1,5 +1,4 @@
 use borrow.Author.Needs.{needs}
-use borrow.Author.Needs.{needs}
 use Rattle.registers.proofs.Present.gone_to.Statement.{statement}
 use Rattle.registers.proofs.Present.gone_to.Tie as tie
 
