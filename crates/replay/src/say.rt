@@ -43,21 +43,12 @@ pub fn unread(line: u64) {
     end();
 }
 
-// Whether a line names something that is there.
-pub fn known(line: u64, known: bool) {
-    if known {
+// A change is done where what it names is there; and whether it is.
+pub fn changed(there: bool) -> bool {
+    if there {
         done(0);
-    } else {
-        unread(line);
     }
-}
-
-fn bit(b: bool) -> u64 {
-    if b { 1 } else { 0 }
-}
-
-pub fn flag(b: bool) {
-    then(bit(b));
+    there
 }
 
 // ---- bytes
@@ -88,7 +79,7 @@ fn next(from: usize, n: usize) -> usize
 }
 
 // In hexadecimal, and the end of the line.
-pub fn hex(bytes: &[u8]) {
+pub fn hex(bytes: &[u8]) -> bool {
     let mut from: usize = 0;
     while from < bytes.len() {
         let to = next(from, bytes.len());
@@ -96,14 +87,16 @@ pub fn hex(bytes: &[u8]) {
         from = to;
     }
     end();
+    true
 }
 
 fn list(block: &[u8], out: &mut [u8; 4096]) -> usize {
     lines::listed(block, out)
 }
 
-pub fn listing(block: &[u8]) {
+pub fn listing(block: &[u8]) -> bool {
     let mut out = [0u8; 4096];
     let k = list(block, &mut out);
     show(&out, k);
+    true
 }

@@ -2,20 +2,29 @@ use mathlib.Core.Path.{_≡_}
 use Prim.Native.Nat.{_-_}
 use lib.ListN.{length}
 use borrow.Author.Needs.{needs}
-use Rattle.replay.proofs.meter.identifier.Statement.{statement}
-use Rattle.replay.proofs.meter.identifier.Tie as tie
+use Rattle.replay.proofs.kept.identifier.Statement.{statement}
+use Rattle.replay.proofs.kept.identifier.Tie as tie
 
 abbrev Inv-loop : tie.InvT-loop
-Inv-loop word id₀ i₀ id i = length id ≡ 12
+Inv-loop words from id₀ i₀ id i = length id ≡ 12
 
 abbrev μ-loop : tie.MeasureT-loop
-μ-loop word id₀ i₀ id i = 12 - i
+μ-loop words from id₀ i₀ id i = 12 - i
 
 loop-holds : tie.Need-loop-holds Inv-loop μ-loop
 loop-holds c = search needs
 
-byte-at-requires : tie.Need-byte-at-requires Inv-loop μ-loop
-byte-at-requires c κs = search needs
+add-narrow8 : tie.Need-add-narrow8 Inv-loop μ-loop
+add-narrow8 c = search needs
+
+mul-narrow8 : tie.Need-mul-narrow8 Inv-loop μ-loop
+mul-narrow8 c = search needs
+
+element-copy-out-narrow8 : tie.Need-element-copy-out-narrow8 Inv-loop μ-loop
+element-copy-out-narrow8 c = search needs
+
+narrow8-requires : tie.Need-narrow8-requires Inv-loop μ-loop
+narrow8-requires c κs = search needs
 
 array-write-id : tie.Need-array-write-id Inv-loop μ-loop
 array-write-id c = search needs
@@ -39,7 +48,10 @@ identifier-spec =
     Inv-loop
     μ-loop
     loop-holds
-    byte-at-requires
+    add-narrow8
+    mul-narrow8
+    element-copy-out-narrow8
+    narrow8-requires
     array-write-id
     add-i
     loop-less
