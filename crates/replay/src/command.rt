@@ -2,18 +2,21 @@
 use crate::names;
 use crate::words;
 
-pub enum Topic {
-    // No command.
-    Nothing,
-    // The recorder without its store, or the lengths of that.
-    Alone,
-    // The recorder with its store, or the given fields.
-    Rows,
-    // A block into or out of the rows.
-    Sent,
-    Block,
-    Ledger,
-}
+// What a command is about, as a number: an enum would be dearer to check.
+pub const NOTHING: u64 = 0;
+
+// The recorder without its store, or the lengths of that.
+pub const RECORDER: u64 = 1;
+
+// The recorder with its store, or the given fields.
+pub const ROWS: u64 = 2;
+
+// A block out of the rows, or into them.
+pub const SENT: u64 = 3;
+
+pub const BLOCK: u64 = 4;
+
+pub const LEDGER: u64 = 5;
 
 // Whether n words may follow a first word. There is no command of another name.
 fn counts(name: u64, n: usize) -> bool {
@@ -36,29 +39,31 @@ fn counts(name: u64, n: usize) -> bool {
 }
 
 // `lend ledger N` and `poke ledger I N` are the ledger's.
-fn of_ledger(first: u64, second: u64) -> bool {
-    ((first == names::LEND) | (first == names::POKE)) & (second == names::LEDGER)
+fn of_ledger(name: u64, n: usize, second: u64) -> bool {
+    (((name == names::LEND) & (n == 2)) | ((name == names::POKE) & (n == 3)))
+        & (second == names::LEDGER)
 }
 
-fn named(name: u64) -> Topic {
+fn named(name: u64) -> u64 {
     match name {
-        names::SHOW | names::LEND => Topic::Alone,
-        names::READ | names::FIELDS | names::WRITE => Topic::Sent,
-        names::BLOCK | names::HEX | names::BYTE | names::CUT => Topic::Block,
-        names::CHECK | names::KEEP | names::TAKE | names::LISTING => Topic::Block,
-        names::OPEN | names::FILE | names::DELIVER => Topic::Ledger,
-        names::SUMMARY | names::MISSING | names::LEDGER => Topic::Ledger,
-        _ => Topic::Rows,
+        names::SHOW | names::LEND => RECORDER,
+        names::READ | names::FIELDS | names::WRITE => SENT,
+        names::BLOCK | names::HEX | names::BYTE | names::CUT => BLOCK,
+        names::CHECK | names::KEEP | names::TAKE | names::LISTING => BLOCK,
+        names::OPEN | names::FILE | names::DELIVER => LEDGER,
+        names::SUMMARY | names::MISSING | names::LEDGER => LEDGER,
+        _ => ROWS,
     }
 }
 
 // By the first word, where as many words follow it as may.
-pub fn topic_of(name: u64, line: &[u8]) -> Topic {
-    if !counts(name, script::arguments(line)) {
-        return Topic::Nothing;
+pub fn topic_of(name: u64, line: &[u8]) -> u64 {
+    let n = script::arguments(line);
+    if !counts(name, n) {
+        return NOTHING;
     }
-    if of_ledger(name, words::name(line, 1)) {
-        return Topic::Ledger;
+    if of_ledger(name, n, words::name(line, 1)) {
+        return LEDGER;
     }
     named(name)
 }

@@ -44,18 +44,9 @@ fn of_day(name: u64, day: u64, ledger: &[u8]) -> bool {
     true
 }
 
-// `poke ledger I N`.
-fn poke(line: &[u8], ledger: &mut [u8]) -> bool {
-    if script::arguments(line) != 3 {
-        return false;
-    }
-    say::changed(memory::put(ledger, words::number(line, 2), words::number(line, 3)))
-}
-
-fn asked(name: u64, line: &[u8], ledger: &mut [u8]) -> bool {
+fn asked(name: u64, line: &[u8], ledger: &[u8]) -> bool {
     match name {
         names::LEDGER => say::hex(ledger),
-        names::POKE => poke(line, ledger),
         _ => of_day(name, words::day(line, 1), ledger),
     }
 }
@@ -78,7 +69,7 @@ fn length_for(days: u32) -> u64 {
 }
 
 fn open_lent(ledger: &mut [u8], id: &[u8], first: u32, days: u32) -> bool {
-    memory::clear(ledger);
+    memory::clear(ledger, 0, ledger.len());
     say::answer(ledger::open(ledger, id, first, days), 0);
     true
 }
@@ -102,17 +93,22 @@ fn open(line: &[u8], words: &mut Words, ledger: &mut [u8]) -> bool {
 }
 
 // `lend ledger N`.
-fn lend(line: &[u8], words: &mut Words, ledger: &mut [u8]) -> bool {
-    let n = words::number(line, 2);
-    if (script::arguments(line) != 2) | (LONGEST < n) {
+fn lend(n: u64, words: &mut Words, ledger: &mut [u8]) -> bool {
+    if LONGEST < n {
         return false;
     }
-    memory::clear_from(
-        memory::part_mut(ledger, 0, n as usize),
-        words[kept::LEDGER] as usize,
-    );
+    memory::clear(ledger, kept::length(words, kept::LEDGER), n as usize);
     words[kept::LEDGER] = n;
     say::changed(true)
+}
+
+// `poke ledger I N`.
+fn poke(line: &[u8], n: u64, ledger: &mut [u8]) -> bool {
+    let i = words::number(line, 2);
+    if n <= i {
+        return false;
+    }
+    say::changed(memory::put(ledger, i as usize, words::number(line, 3)))
 }
 
 // ---- all that is asked of the ledger
@@ -130,17 +126,18 @@ fn file_from(k: usize, words: &Words, blocks: &[u8], ledger: &mut [u8]) -> bool 
         return false;
     }
     file(
-        memory::part_mut(ledger, 0, words[kept::LEDGER] as usize),
+        memory::part_mut(ledger, 0, kept::length(words, kept::LEDGER)),
         blocks::on_shelf(blocks, k, blocks::length(words, k)),
     )
 }
 
 pub fn obeyed(name: u64, line: &[u8], words: &mut Words, blocks: &[u8], ledger: &mut [u8]) -> bool {
-    let n = words[kept::LEDGER] as usize;
+    let n = kept::word(words, kept::LEDGER);
     match name {
         names::OPEN => open(line, words, ledger),
-        names::LEND => lend(line, words, ledger),
+        names::LEND => lend(words::number(line, 2), words, ledger),
+        names::POKE => poke(line, n, ledger),
         names::FILE | names::DELIVER => file_from(shelf(name, line), words, blocks, ledger),
-        _ => asked(name, line, memory::part_mut(ledger, 0, n)),
+        _ => asked(name, line, memory::part(ledger, 0, n as usize)),
     }
 }

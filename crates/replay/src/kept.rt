@@ -110,22 +110,21 @@ pub fn row(from: usize, i: u64, n: u64) -> usize
     from + i as usize
 }
 
-// The first given day, and how many days there are with those.
+// The first given day.
 pub const GIVEN: u64 = 450;
-
-const ALL_DAYS: u64 = 900;
 
 // The place of number k of a day, in the order of `day`: its start, its flags, its two words of marks, its 48 values.
 pub fn of_day(day: u64, k: u64) -> usize {
-    if ALL_DAYS <= day {
+    let d = day as usize;
+    if 900 <= d {
         return NOWHERE;
     }
     match k {
-        0 => START + day as usize,
-        1 => 3 * day as usize + 2,
-        2 => 3 * day as usize,
-        3 => 3 * day as usize + 1,
-        _ => row(VALUE, 48 * day + (k - 4) % 48, 43200),
+        0 => START + d,
+        1 => 3 * d + 2,
+        2 => 3 * d,
+        3 => 3 * d + 1,
+        _ => VALUE + 48 * d + (k - 4) as usize % 48,
     }
 }
 
@@ -184,6 +183,24 @@ pub fn get(at: usize, words: &Words, values: &Values, starts: &Starts) -> u64 {
     0
 }
 
+// ---- a word by itself
+
+pub fn word(words: &Words, i: usize) -> u64 {
+    if i < VALUE { words[i] } else { 0 }
+}
+
+pub fn small(words: &Words, i: usize) -> u32 {
+    narrow(word(words, i))
+}
+
+pub fn length(words: &Words, i: usize) -> usize {
+    word(words, i) as usize
+}
+
+pub fn is_set(words: &Words, i: usize) -> bool {
+    word(words, i) == 1
+}
+
 // ---- numbers of fewer bits
 
 pub fn narrow(x: u64) -> u32 {
@@ -224,25 +241,23 @@ pub fn identifier(words: &Words, from: usize) -> [u8; 12]
     id
 }
 
-pub fn keep_identifier(words: &mut Words, from: usize, id: [u8; 12])
+fn byte_at(bytes: &[u8], i: usize) -> u64 {
+    if i < bytes.len() { wide8(bytes[i]) } else { 0 }
+}
+
+// Twelve letters: 0 for those that the bytes don't have.
+pub fn keep_letters(words: &mut Words, from: usize, bytes: &[u8])
     requires { ⌜ from < 2790 ⌝ }
 {
     let mut i: usize = 0;
     while i < 12 {
-        words[from + i] = wide8(id[i]);
+        words[from + i] = byte_at(bytes, i);
         i += 1;
     }
 }
 
-fn byte_at(word: &[u8], i: usize) -> u64 {
-    if i < word.len() { wide8(word[i]) } else { 0 }
-}
-
-// The letters of a recorder that is to be set up.
-pub fn keep_letters(words: &mut Words, word: &[u8]) {
-    let mut i: usize = 0;
-    while i < 12 {
-        words[LETTER + i] = byte_at(word, i);
-        i += 1;
-    }
+pub fn keep_identifier(words: &mut Words, from: usize, id: &[u8; 12])
+    requires { ⌜ from < 2790 ⌝ }
+{
+    keep_letters(words, from, id);
 }

@@ -1,7 +1,6 @@
 // Parts of lent memory that are there, zeros, and copies within it.
 ghost use mathlib.Core.Path.{_≡_};
-ghost use Prim.Native.Nat.{min, _+_, _≤_};
-ghost use lib.ListN.{length};
+ghost use Prim.Native.Nat.{min};
 
 // 33 blocks, the last of them the current one.
 pub type Blocks = [u8; 3255846];
@@ -50,41 +49,34 @@ pub fn part_mut(bytes: &mut [u8], from: usize, n: usize) -> &mut [u8] {
     &mut bytes[a..b]
 }
 
-pub fn clear(bytes: &mut [u8]) {
-    let mut i: usize = 0;
-    while i < bytes.len() {
+// The first n elements, or as many as there are.
+pub fn first16(row: &mut [u16], n: usize) -> &mut [u16] {
+    let k = smaller(n, row.len());
+    &mut row[0..k]
+}
+
+pub fn first32(row: &mut [u32], n: usize) -> &mut [u32] {
+    let k = smaller(n, row.len());
+    &mut row[0..k]
+}
+
+pub fn first64(row: &mut [u64], n: usize) -> &mut [u64] {
+    let k = smaller(n, row.len());
+    &mut row[0..k]
+}
+
+// The bytes from one index to another become 0.
+pub fn clear(bytes: &mut [u8], from: usize, to: usize) {
+    let end = smaller(to, bytes.len());
+    let mut i = from;
+    while i < end {
         bytes[i] = 0;
         i += 1;
     }
 }
 
-// What lies in a row of n bytes beyond its first ones becomes 0.
-pub fn clear_from(bytes: &mut [u8], from: usize) {
-    let a = smaller(from, bytes.len());
-    clear(&mut bytes[a..]);
-}
-
-fn copy_part(bytes: &mut [u8], from: usize, to: usize, n: usize)
-    requires { ⌜ (from + n ≤ length (now bytes)) × (to + n ≤ length (now bytes)) ⌝ }
-{
-    let mut i: usize = 0;
-    while i < n {
-        bytes[to + i] = bytes[from + i];
-        i += 1;
-    }
-}
-
-// n bytes from one index to another, or as many as there is room for.
-pub fn copy(bytes: &mut [u8], from: usize, to: usize, n: usize) {
-    let a = smaller(from, bytes.len());
-    let b = smaller(to, bytes.len());
-    let k = smaller(n, smaller(bytes.len() - a, bytes.len() - b));
-    copy_part(bytes, a, b, k);
-}
-
 // A byte at an index, and whether it is there and a byte.
-pub fn put(bytes: &mut [u8], i: u64, b: u64) -> bool {
-    let at = i as usize;
+pub fn put(bytes: &mut [u8], at: usize, b: u64) -> bool {
     if bytes.len() <= at {
         return false;
     }

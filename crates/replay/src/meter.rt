@@ -1,12 +1,10 @@
 // The recorder and its store, lent as the script says.
-ghost use Prim.Native.Nat.{_≤_};
 use crate::blocks;
 use crate::kept;
 use crate::kept::Starts;
 use crate::kept::Values;
 use crate::kept::Words;
 use crate::memory;
-use crate::memory::Blocks;
 use crate::names;
 use crate::recorded;
 use crate::say;
@@ -54,58 +52,109 @@ pub fn lend(line: &[u8], words: &mut Words) -> bool {
             words,
         );
     }
-    lend_for(words[kept::CLASS], words);
+    lend_for(kept::word(words, kept::CLASS), words);
     words[kept::STANDS] = 0;
     say::changed(true)
 }
 
-// ---- set-up and events
+// ---- set-up
 
-// Whether the words of a set-up are right: of n, the last one is the counter's value, the one before it the total.
-fn can_start(line: &[u8], n: usize) -> bool
-    requires { ⌜ 2 ≤ n ⌝ }
-{
+// Whether the words of a set-up are right: the last one is the counter's value, the one before it the total.
+fn can_start(line: &[u8]) -> bool {
+    let n = script::arguments(line);
     let id = script::word(line, 1);
     (id.len() == IDENTIFIER)
         & (words::class(script::word(line, 2)) != words::NONE)
         & (words::small(line, 3) != words::NONE)
-        & (words::time(line, 4, n - 2) != words::NONE)
-        & (words::number(line, n - 1) != words::NONE)
+        & (words::time(line, 4, words::less(n, 2)) != words::NONE)
+        & (words::number(line, words::less(n, 1)) != words::NONE)
         & (words::small(line, n) != words::NONE)
 }
 
-// What a recorder is set up with lies in its words. A set-up lends the lengths of its class, unless a `lend V S M` stands.
-fn start(line: &[u8], n: usize, words: &mut Words)
-    requires { ⌜ 2 ≤ n ⌝ }
-{
-    let class = words::class(script::word(line, 2));
-    kept::keep_letters(words, script::word(line, 1));
-    words[kept::CLASS] = class;
+fn keep_start(line: &[u8], n: usize, words: &mut Words) {
     words[kept::WEIGHT] = words::number(line, 3);
-    words[kept::TIME] = words::time(line, 4, n - 2);
-    words[kept::TOTAL] = words::number(line, n - 1);
+    words[kept::TIME] = words::time(line, 4, words::less(n, 2));
+    words[kept::TOTAL] = words::number(line, words::less(n, 1));
     words[kept::LAST] = words::number(line, n);
-    if words[kept::STANDS] == 0 {
+}
+
+// What a recorder is set up with lies in its words. A set-up lends the lengths of its class, unless a `lend V S M` stands.
+fn start(line: &[u8], words: &mut Words) {
+    let class = words::class(script::word(line, 2));
+    if !kept::is_set(words, kept::STANDS) {
         lend_for(class, words);
     }
+    kept::keep_letters(words, kept::LETTER, script::word(line, 1));
+    words[kept::CLASS] = class;
+    keep_start(line, script::arguments(line), words);
 }
 
-fn started(line: &[u8], words: &mut Words) -> u64 {
-    let n = script::arguments(line);
-    if n < 2 {
-        return words::NONE;
-    }
-    if !can_start(line, n) {
-        return words::NONE;
-    }
-    start(line, n, words);
-    0
+fn set_up_lent(
+    r: Recorder,
+    v: usize,
+    s: usize,
+    m: usize,
+    values: &mut [u16],
+    starts: &mut [u32],
+    words: &mut [u64],
+) -> Stepped {
+    let identity = r.identity;
+    let id = identity.identifier;
+    let class = identity.class;
+    Recorder::set_up(
+        id,
+        class,
+        identity.weight,
+        r.clock.time,
+        r.energy.total,
+        r.energy.last,
+        memory::first16(values, v),
+        memory::first32(starts, s),
+        memory::first64(words, m),
+    )
 }
+
+fn after(done: Stepped, words: &mut Words) -> bool {
+    let recorder = done.recorder;
+    recorded::keep(recorder, words);
+    say::answer(done.answer, done.carried);
+    true
+}
+
+// After a refusal the recorder is the blank one.
+fn after_set_up(done: Stepped, words: &mut Words) -> bool {
+    if done.answer != 0 {
+        recorded::keep_no_identity(words);
+    }
+    after(done, words)
+}
+
+fn begin(words: &mut Words, values: &mut Values, starts: &mut Starts) -> bool {
+    let done = set_up_lent(
+        recorded::recorder(words),
+        kept::length(words, kept::LENT_VALUES),
+        kept::length(words, kept::LENT_STARTS),
+        kept::length(words, kept::LENT_MARKS),
+        values,
+        starts,
+        words,
+    );
+    after_set_up(done, words)
+}
+
+pub fn set_up(line: &[u8], words: &mut Words, values: &mut Values, starts: &mut Starts) -> bool {
+    if !can_start(line) {
+        return false;
+    }
+    start(line, words);
+    begin(words, values, starts)
+}
+
+// ---- events
 
 // What an event carries.
-fn carried(name: u64, line: &[u8], words: &mut Words) -> u64 {
+fn carried(name: u64, line: &[u8]) -> u64 {
     match name {
-        names::SETUP => started(line, words),
         names::CLOCK | names::ON => words::time(line, 1, script::arguments(line)),
         names::COUNT | names::METER | names::RATE => words::small(line, 1),
         _ => 0,
@@ -126,44 +175,8 @@ fn event(name: u64, n: u64) -> Event {
     }
 }
 
-fn set_up(r: Recorder, values: &mut [u16], starts: &mut [u32], marks: &mut [u64]) -> Stepped {
-    let identity = r.identity;
-    let energy = r.energy;
-    let id = identity.identifier;
-    let class = identity.class;
-    let weight = identity.weight;
-    let total = energy.total;
-    Recorder::set_up(
-        id,
-        class,
-        weight,
-        r.clock.time,
-        total,
-        energy.last,
-        values,
-        starts,
-        marks,
-    )
-}
-
-fn step(
-    name: u64,
-    n: u64,
-    r: Recorder,
-    values: &mut [u16],
-    starts: &mut [u32],
-    marks: &mut [u64],
-) -> Stepped {
-    if name == names::SETUP {
-        return set_up(r, values, starts, marks);
-    }
-    r.step(event(name, n), values, starts, marks)
-}
-
-// With as much of the rows as is lent.
 fn step_lent(
-    name: u64,
-    n: u64,
+    event: Event,
     r: Recorder,
     v: usize,
     s: usize,
@@ -172,27 +185,14 @@ fn step_lent(
     starts: &mut [u32],
     words: &mut [u64],
 ) -> Stepped {
-    let v = memory::smaller(v, values.len());
-    let s = memory::smaller(s, starts.len());
-    let m = memory::smaller(m, words.len());
-    step(
-        name,
-        n,
-        r,
-        &mut values[0..v],
-        &mut starts[0..s],
-        &mut words[0..m],
+    r.step(
+        event,
+        memory::first16(values, v),
+        memory::first32(starts, s),
+        memory::first64(words, m),
     )
 }
 
-fn after(done: Stepped, words: &mut Words) -> bool {
-    let recorder = done.recorder;
-    recorded::keep(recorder, words);
-    say::answer(done.answer, done.carried);
-    true
-}
-
-// A set-up, or one of the nine events.
 pub fn happened(
     name: u64,
     line: &[u8],
@@ -200,17 +200,16 @@ pub fn happened(
     values: &mut Values,
     starts: &mut Starts,
 ) -> bool {
-    let n = carried(name, line, words);
+    let n = carried(name, line);
     if n == words::NONE {
         return false;
     }
     let done = step_lent(
-        name,
-        n,
+        event(name, n),
         recorded::recorder(words),
-        words[kept::LENT_VALUES] as usize,
-        words[kept::LENT_STARTS] as usize,
-        words[kept::LENT_MARKS] as usize,
+        kept::length(words, kept::LENT_VALUES),
+        kept::length(words, kept::LENT_STARTS),
+        kept::length(words, kept::LENT_MARKS),
         values,
         starts,
         words,
@@ -220,28 +219,6 @@ pub fn happened(
 
 // ---- `read N` and `read N ROOM`
 
-fn read_out(
-    days: u32,
-    room: usize,
-    words: &mut Words,
-    values: &[u16],
-    starts: &[u32],
-    blocks: &mut [u8],
-) -> bool {
-    let v = words[kept::LENT_VALUES] as usize;
-    let s = words[kept::LENT_STARTS] as usize;
-    let m = words[kept::LENT_MARKS] as usize;
-    let done = readout::read(
-        recorded::recorder(words),
-        days,
-        memory::part16(values, 0, v),
-        memory::part32(starts, 0, s),
-        memory::part64(words, 0, m),
-        blocks::output(blocks, room),
-    );
-    blocks::sent(done.answer, done.carried, words)
-}
-
 fn room_asked(line: &[u8]) -> u64 {
     if script::arguments(line) == 1 {
         return blocks::LONGEST;
@@ -249,24 +226,58 @@ fn room_asked(line: &[u8]) -> u64 {
     words::number(line, 2)
 }
 
+fn read_out(
+    days: u64,
+    words: &Words,
+    values: &[u16],
+    starts: &[u32],
+    marks: &[u64],
+    out: &mut [u8],
+) -> u64 {
+    let done = readout::read(
+        recorded::recorder(words),
+        kept::narrow(days),
+        values,
+        starts,
+        marks,
+        out,
+    );
+    blocks::packed(done.answer, done.carried)
+}
+
+// With as much of the rows as is lent.
+fn read_lent(days: u64, words: &Words, values: &[u16], starts: &[u32], out: &mut [u8]) -> u64 {
+    let v = kept::length(words, kept::LENT_VALUES);
+    let s = kept::length(words, kept::LENT_STARTS);
+    let m = kept::length(words, kept::LENT_MARKS);
+    read_out(
+        days,
+        words,
+        memory::part16(values, 0, v),
+        memory::part32(starts, 0, s),
+        memory::part64(words, 0, m),
+        out,
+    )
+}
+
 pub fn read(
     line: &[u8],
     words: &mut Words,
-    values: &Values,
-    starts: &Starts,
-    blocks: &mut Blocks,
+    values: &[u16],
+    starts: &[u32],
+    blocks: &mut [u8],
 ) -> bool {
     let days = words::small(line, 1);
     let room = room_asked(line);
     if (days == words::NONE) | (blocks::LONGEST < room) {
         return false;
     }
-    read_out(
-        kept::narrow(days),
-        room as usize,
+    let answer = read_lent(
+        days,
         words,
         values,
         starts,
-        blocks,
-    )
+        blocks::output(blocks, room as usize),
+    );
+    blocks::sent(answer, words)
 }

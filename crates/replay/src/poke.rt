@@ -30,9 +30,9 @@ fn element(name: u64, i: u64, words: &Words) -> usize {
     match name {
         names::LETTER => kept::row(kept::LETTER, i, 12),
         names::REGISTER => kept::row(kept::REGISTER, words::less_one(i), 8),
-        names::VALUE => kept::row(kept::VALUE, i, words[kept::LENT_VALUES]),
-        names::START => kept::row(kept::START, i, words[kept::LENT_STARTS]),
-        names::MARK => kept::row(0, i, words[kept::LENT_MARKS]),
+        names::VALUE => kept::row(kept::VALUE, i, kept::word(words, kept::LENT_VALUES)),
+        names::START => kept::row(kept::START, i, kept::word(words, kept::LENT_STARTS)),
+        names::MARK => kept::row(0, i, kept::word(words, kept::LENT_MARKS)),
         _ => kept::NOWHERE,
     }
 }

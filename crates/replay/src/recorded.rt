@@ -24,33 +24,7 @@ pub fn class_numbered(n: u64) -> Class {
     }
 }
 
-fn class_number(class: Class) -> u64 {
-    match class {
-        Class::A => 1,
-        Class::B => 2,
-        Class::C => 3,
-        Class::D => 4,
-        Class::Blank => 0,
-    }
-}
-
 // ---- out
-
-fn identity(words: &Words) -> Identity {
-    Identity {
-        identifier: kept::identifier(words, kept::LETTER),
-        class: class_numbered(words[kept::CLASS]),
-        weight: WattHours(words[kept::WEIGHT]),
-    }
-}
-
-fn clock(words: &Words) -> Present {
-    Present {
-        time: words[kept::TIME],
-        on: words[kept::POWER] == 1,
-        days: kept::narrow(words[kept::DAYS]),
-    }
-}
 
 fn rates(words: &Words) -> [WattHours; 8] {
     let mut rates = [WattHours(0); 8];
@@ -62,58 +36,51 @@ fn rates(words: &Words) -> [WattHours; 8] {
     rates
 }
 
-fn energy(words: &Words) -> Energy {
-    Energy {
-        total: WattHours(words[kept::TOTAL]),
-        last: kept::narrow(words[kept::LAST]),
-        rate: kept::narrow(words[kept::RATE]),
-        rates: rates(words),
-    }
-}
-
-fn demand(words: &Words) -> Demand {
-    Demand {
-        current: CentiKilowatts(words[kept::CURRENT]),
-        previous: CentiKilowatts(words[kept::PREVIOUS]),
-        cumulative: CentiKilowatts(words[kept::SUMMED]),
-        reset: kept::narrow(words[kept::RESET]),
-        count: kept::narrow(words[kept::RESETS]),
-    }
-}
-
-fn running(words: &Words) -> Running {
-    Running {
-        base: RegisterUnits(words[kept::BASE]),
-        reverse: words[kept::REVERSE] == 1,
-        level2: words[kept::LEVEL2] == 1,
-    }
-}
-
 pub fn recorder(words: &Words) -> Recorder {
+    let identity = Identity {
+        identifier: kept::identifier(words, kept::LETTER),
+        class: class_numbered(kept::word(words, kept::CLASS)),
+        weight: WattHours(kept::word(words, kept::WEIGHT)),
+    };
+    let clock = Present {
+        time: kept::word(words, kept::TIME),
+        on: kept::is_set(words, kept::POWER),
+        days: kept::small(words, kept::DAYS),
+    };
+    let energy = Energy {
+        total: WattHours(kept::word(words, kept::TOTAL)),
+        last: kept::small(words, kept::LAST),
+        rate: kept::small(words, kept::RATE),
+        rates: rates(words),
+    };
     Recorder {
-        identity: identity(words),
-        clock: clock(words),
-        energy: energy(words),
+        identity: identity,
+        clock: clock,
+        energy: energy,
         demand: demand(words),
         running: running(words),
     }
 }
 
-// ---- back
-
-fn keep_identity(identity: Identity, words: &mut Words) {
-    let class = identity.class;
-    let id = identity.identifier;
-    kept::keep_identifier(words, kept::LETTER, id);
-    words[kept::CLASS] = class_number(class);
-    words[kept::WEIGHT] = identity.weight.0;
+fn demand(words: &Words) -> Demand {
+    Demand {
+        current: CentiKilowatts(kept::word(words, kept::CURRENT)),
+        previous: CentiKilowatts(kept::word(words, kept::PREVIOUS)),
+        cumulative: CentiKilowatts(kept::word(words, kept::SUMMED)),
+        reset: kept::small(words, kept::RESET),
+        count: kept::small(words, kept::RESETS),
+    }
 }
 
-fn keep_clock(clock: Present, words: &mut Words) {
-    words[kept::TIME] = clock.time;
-    words[kept::POWER] = kept::bit(clock.on);
-    words[kept::DAYS] = clock.days as u64;
+fn running(words: &Words) -> Running {
+    Running {
+        base: RegisterUnits(kept::word(words, kept::BASE)),
+        reverse: kept::is_set(words, kept::REVERSE),
+        level2: kept::is_set(words, kept::LEVEL2),
+    }
 }
+
+// ---- back, but for the identity, which no event changes
 
 fn keep_rates(rates: [WattHours; 8], words: &mut Words) {
     let mut i: usize = 0;
@@ -140,21 +107,22 @@ fn keep_demand(demand: Demand, words: &mut Words) {
     words[kept::RESETS] = demand.count as u64;
 }
 
-fn keep_running(running: Running, words: &mut Words) {
-    words[kept::BASE] = running.base.0;
-    words[kept::REVERSE] = kept::bit(running.reverse);
-    words[kept::LEVEL2] = kept::bit(running.level2);
-}
-
 pub fn keep(recorder: Recorder, words: &mut Words) {
-    let identity = recorder.identity;
-    let clock = recorder.clock;
     let energy = recorder.energy;
     let demand = recorder.demand;
-    let running = recorder.running;
-    keep_identity(identity, words);
-    keep_clock(clock, words);
+    words[kept::TIME] = recorder.clock.time;
+    words[kept::POWER] = kept::bit(recorder.clock.on);
+    words[kept::DAYS] = recorder.clock.days as u64;
+    words[kept::BASE] = recorder.running.base.0;
+    words[kept::REVERSE] = kept::bit(recorder.running.reverse);
+    words[kept::LEVEL2] = kept::bit(recorder.running.level2);
     keep_energy(energy, words);
     keep_demand(demand, words);
-    keep_running(running, words);
+}
+
+// That of the blank recorder.
+pub fn keep_no_identity(words: &mut Words) {
+    kept::keep_letters(words, kept::LETTER, b"");
+    words[kept::CLASS] = 0;
+    words[kept::WEIGHT] = 0;
 }

@@ -30,10 +30,11 @@ pub fn answer(number: u32, carried: u32) {
     end();
 }
 
-pub fn done(carried: usize) {
+pub fn done(carried: u64) -> bool {
     number(0);
-    then(carried as u64);
+    then(carried);
     end();
+    true
 }
 
 // The line with this number can't be understood.
@@ -53,22 +54,23 @@ pub fn changed(there: bool) -> bool {
 
 // ---- bytes
 
-fn first(out: &[u8], k: usize) {
+fn first(out: &[u8], k: usize) -> bool {
     text(memory::part(out, 0, k));
+    true
 }
 
-fn show(out: &[u8; 4096], k: usize) {
-    first(out, k);
+fn show(out: &[u8; 4096], k: usize) -> bool {
+    first(out, k)
 }
 
 fn spell(bytes: &[u8], out: &mut [u8; 4096]) -> usize {
     script::hex(bytes, out)
 }
 
-fn hex_part(bytes: &[u8]) {
+fn hex_part(bytes: &[u8]) -> bool {
     let mut out = [0u8; 4096];
     let k = spell(bytes, &mut out);
-    show(&out, k);
+    show(&out, k)
 }
 
 fn next(from: usize, n: usize) -> usize
@@ -97,6 +99,5 @@ fn list(block: &[u8], out: &mut [u8; 4096]) -> usize {
 pub fn listing(block: &[u8]) -> bool {
     let mut out = [0u8; 4096];
     let k = list(block, &mut out);
-    show(&out, k);
-    true
+    show(&out, k)
 }

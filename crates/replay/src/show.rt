@@ -41,14 +41,14 @@ fn room_of(day: u64, days: u32) -> u64 {
 
 // Whether a room lies in the store as it is lent.
 fn is_lent(room: u64, words: &Words) -> bool {
-    (room < words[kept::LENT_VALUES] / 48)
-        & (room < words[kept::LENT_STARTS])
-        & (room < words[kept::LENT_MARKS] / 3)
+    (room < kept::word(words, kept::LENT_VALUES) / 48)
+        & (room < kept::word(words, kept::LENT_STARTS))
+        & (room < kept::word(words, kept::LENT_MARKS) / 3)
 }
 
 // The room of a day, as it lies in the store.
 pub fn day(day: u64, words: &Words, values: &Values, starts: &Starts) -> bool {
-    let class = recorded::class_numbered(words[kept::CLASS]);
+    let class = recorded::class_numbered(kept::word(words, kept::CLASS));
     let room = room_of(day, class.days());
     if (day == words::NONE) | !is_lent(room, words) {
         return false;

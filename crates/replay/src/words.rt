@@ -48,11 +48,11 @@ pub fn less_one(i: u64) -> u64 {
     if i == 0 { NONE } else { i - 1 }
 }
 
-// ---- a class
-
-fn is_letter(b: u8) -> bool {
-    ((65 <= b) & (b <= 90)) | ((97 <= b) & (b <= 122))
+pub fn less(n: usize, k: usize) -> usize {
+    if n < k { 0 } else { n - k }
 }
+
+// ---- a class
 
 fn class_of(letter: u8) -> u64 {
     match letter {
@@ -60,16 +60,14 @@ fn class_of(letter: u8) -> u64 {
         b'b' => 2,
         b'c' => 3,
         b'd' => 4,
-        _ => 0,
+        b'A'..=b'Z' | b'e'..=b'z' => 0,
+        _ => NONE,
     }
 }
 
 // The number of the class that a word of one letter names.
 pub fn class(word: &[u8]) -> u64 {
     if word.len() != 1 {
-        return NONE;
-    }
-    if !is_letter(word[0]) {
         return NONE;
     }
     class_of(word[0])

@@ -4,10 +4,10 @@ use Rattle.replay.proofs.kept.keep_letters.Statement.{statement}
 use Rattle.replay.proofs.kept.keep_letters.Tie as tie
 
 abbrev Inv-loop : tie.InvT-loop
-Inv-loop words₀ word i₀ words i = i ≤ 12
+Inv-loop words₀ from bytes i₀ words i = i ≤ 12
 
 abbrev μ-loop : tie.MeasureT-loop
-μ-loop words₀ word i₀ words i = 12 - i
+μ-loop words₀ from bytes i₀ words i = 12 - i
 
 loop-holds : tie.Need-loop-holds Inv-loop μ-loop
 loop-holds c = search needs
