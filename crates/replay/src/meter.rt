@@ -1,340 +1,283 @@
 // The recorder and its store, lent as the script says.
 use crate::blocks;
-use crate::blocks::Shelves;
-use crate::command::Lengths;
-use crate::command::OfMeter;
-use crate::command::Start;
+use crate::kept;
+use crate::kept::Starts;
+use crate::kept::Values;
+use crate::kept::Words;
 use crate::memory;
 use crate::names;
-use crate::poke;
+use crate::recorded;
 use crate::say;
-use crate::show;
-use format::Number;
-use quantity::WattHours;
+use crate::words;
 use recorder::Event;
 use recorder::Recorder;
-use store::Class;
+use recorder::Stepped;
 
-// The recorder, the lengths that its store is lent with, and whether a `lend` stands.
-pub struct Meter {
-    pub recorder: Recorder,
-    pub lent: Lengths,
-    pub stands: bool,
+const IDENTIFIER: usize = 12;
+
+const MOST_VALUES: u64 = 21600;
+
+const MOST_STARTS: u64 = 450;
+
+const MOST_MARKS: u64 = 1350;
+
+// ---- the lengths that the store is lent with
+
+// Those of a class.
+fn lend_for(class: u64, words: &mut Words) {
+    let class = recorded::class_numbered(class);
+    words[kept::LENT_VALUES] = class.values_len() as u64;
+    words[kept::LENT_STARTS] = class.starts_len() as u64;
+    words[kept::LENT_MARKS] = class.marks_len() as u64;
 }
 
-// The lengths of a class's store.
-fn lengths_of(class: Class) -> Lengths {
-    Lengths {
-        values: class.values_len(),
-        starts: class.starts_len(),
-        marks: class.marks_len(),
+fn lend_so(values: u64, starts: u64, marks: u64, words: &mut Words) -> bool {
+    if (MOST_VALUES < values) | (MOST_STARTS < starts) | (MOST_MARKS < marks) {
+        return false;
     }
+    words[kept::LENT_VALUES] = values;
+    words[kept::LENT_STARTS] = starts;
+    words[kept::LENT_MARKS] = marks;
+    words[kept::STANDS] = 1;
+    say::changed(true)
 }
 
-fn class_in(recorder: Recorder) -> Class {
-    let identity = recorder.identity;
-    identity.class
-}
-
-// The room of a day among so many.
-fn room(day: u32, days: u32) -> u32 {
-    if days == 0 { 0 } else { day % days }
-}
-
-fn byte_at(word: &[u8], i: usize) -> u8 {
-    if i < word.len() { word[i] } else { 0 }
-}
-
-// A word of twelve bytes.
-fn identifier(word: &[u8]) -> [u8; 12] {
-    let mut id = [0u8; 12];
-    let mut i: usize = 0;
-    while i < 12 {
-        id[i] = byte_at(word, i);
-        i += 1;
+// `lend` and `lend V S M`.
+pub fn lend(line: &[u8], words: &mut Words) -> bool {
+    if script::arguments(line) != 0 {
+        return lend_so(
+            words::number(line, 1),
+            words::number(line, 2),
+            words::number(line, 3),
+            words,
+        );
     }
-    id
+    lend_for(kept::word(words, kept::CLASS), words);
+    words[kept::STANDS] = 0;
+    say::changed(true)
 }
 
-// ---- set-up and events
+// ---- set-up
 
-fn set_up(
-    start: Start,
-    word: &[u8],
+// Whether the words of a set-up are right: the last one is the counter's value, the one before it the total.
+fn can_start(line: &[u8]) -> bool {
+    let n = script::arguments(line);
+    let id = script::word(line, 1);
+    (id.len() == IDENTIFIER)
+        & (words::class(script::word(line, 2)) != words::NONE)
+        & (words::small(line, 3) != words::NONE)
+        & (words::time(line, 4, words::less(n, 2)) != words::NONE)
+        & (words::number(line, words::less(n, 1)) != words::NONE)
+        & (words::small(line, n) != words::NONE)
+}
+
+fn keep_start(line: &[u8], n: usize, words: &mut Words) {
+    words[kept::WEIGHT] = words::number(line, 3);
+    words[kept::TIME] = words::time(line, 4, words::less(n, 2));
+    words[kept::TOTAL] = words::number(line, words::less(n, 1));
+    words[kept::LAST] = words::number(line, n);
+}
+
+// What a recorder is set up with lies in its words. A set-up lends the lengths of its class, unless a `lend V S M` stands.
+fn start(line: &[u8], words: &mut Words) {
+    let class = words::class(script::word(line, 2));
+    if !kept::is_set(words, kept::STANDS) {
+        lend_for(class, words);
+    }
+    kept::keep_letters(words, kept::LETTER, script::word(line, 1));
+    words[kept::CLASS] = class;
+    keep_start(line, script::arguments(line), words);
+}
+
+fn set_up_lent(
+    r: Recorder,
+    v: usize,
+    s: usize,
+    m: usize,
     values: &mut [u16],
     starts: &mut [u32],
-    marks: &mut [u64],
-) -> Recorder {
-    let class = start.class;
-    let done = Recorder::set_up(
-        identifier(word),
+    words: &mut [u64],
+) -> Stepped {
+    let identity = r.identity;
+    let id = identity.identifier;
+    let class = identity.class;
+    Recorder::set_up(
+        id,
         class,
-        WattHours(start.weight as u64),
-        start.time,
-        WattHours(start.total),
-        start.counter,
+        identity.weight,
+        r.clock.time,
+        r.energy.total,
+        r.energy.last,
+        memory::first16(values, v),
+        memory::first32(starts, s),
+        memory::first64(words, m),
+    )
+}
+
+fn after(done: Stepped, words: &mut Words) -> bool {
+    let recorder = done.recorder;
+    recorded::keep(recorder, words);
+    say::answer(done.answer, done.carried);
+    true
+}
+
+// After a refusal the recorder is the blank one.
+fn after_set_up(done: Stepped, words: &mut Words) -> bool {
+    if done.answer != 0 {
+        recorded::keep_no_identity(words);
+    }
+    after(done, words)
+}
+
+fn begin(words: &mut Words, values: &mut Values, starts: &mut Starts) -> bool {
+    let done = set_up_lent(
+        recorded::recorder(words),
+        kept::length(words, kept::LENT_VALUES),
+        kept::length(words, kept::LENT_STARTS),
+        kept::length(words, kept::LENT_MARKS),
         values,
         starts,
-        marks,
+        words,
     );
-    say::answer(done.answer, done.carried);
-    done.recorder
+    after_set_up(done, words)
 }
 
-fn step(
-    recorder: Recorder,
-    event: Event,
-    values: &mut [u16],
-    starts: &mut [u32],
-    marks: &mut [u64],
-) -> Recorder {
-    let done = recorder.step(event, values, starts, marks);
-    say::answer(done.answer, done.carried);
-    done.recorder
-}
-
-// The room of a day, as it lies in the store.
-fn show_day(at: u64, class: Class, day: u32, values: &[u16], starts: &[u32], marks: &[u64]) {
-    let days = class.days();
-    if days == 0 {
-        say::unread(at);
-        return;
+pub fn set_up(line: &[u8], words: &mut Words, values: &mut Values, starts: &mut Starts) -> bool {
+    if !can_start(line) {
+        return false;
     }
-    if !show::day(room(day, days) as usize, values, starts, marks) {
-        say::unread(at);
-    }
+    start(line, words);
+    begin(words, values, starts)
 }
 
-// ---- damage
+// ---- events
 
-fn poke_field(at: u64, r: Recorder, name: u64, word: &[u8]) -> Recorder {
-    let Number::Is(n) = script::number(word) else {
-        say::unread(at);
-        return r;
-    };
-    let done = poke::field(r, name, n);
-    say::known(at, done.known);
-    done.recorder
-}
-
-fn poke_element(at: u64, r: Recorder, name: u64, i: u64, n: u64) -> Recorder {
-    let done = poke::element(r, name, i, n);
-    say::known(at, done.known);
-    done.recorder
-}
-
-fn poke_at(
-    at: u64,
-    r: Recorder,
-    name: u64,
-    i: u64,
-    n: u64,
-    values: &mut [u16],
-    starts: &mut [u32],
-    marks: &mut [u64],
-) -> Recorder {
+// What an event carries.
+fn carried(name: u64, line: &[u8]) -> u64 {
     match name {
-        names::VALUE => say::known(at, memory::put_value(i as usize, n, values)),
-        names::START => say::known(at, memory::put_start(i as usize, n, starts)),
-        names::MARK => say::known(at, memory::put_mark(i as usize, n, marks)),
-        _ => return poke_element(at, r, name, i, n),
-    }
-    r
-}
-
-fn poke_place(
-    at: u64,
-    r: Recorder,
-    line: &[u8],
-    values: &mut [u16],
-    starts: &mut [u32],
-    marks: &mut [u64],
-) -> Recorder {
-    let name = script::name(script::word(line, 1));
-    let Number::Is(i) = script::number(script::word(line, 2)) else {
-        say::unread(at);
-        return r;
-    };
-    let Number::Is(n) = script::number(script::word(line, 3)) else {
-        say::unread(at);
-        return r;
-    };
-    poke_at(at, r, name, i, n, values, starts, marks)
-}
-
-// `poke NAME N` and `poke NAME I N`.
-fn poke(
-    at: u64,
-    r: Recorder,
-    line: &[u8],
-    values: &mut [u16],
-    starts: &mut [u32],
-    marks: &mut [u64],
-) -> Recorder {
-    match script::arguments(line) {
-        2 => poke_field(
-            at,
-            r,
-            script::name(script::word(line, 1)),
-            script::word(line, 2),
-        ),
-        3 => poke_place(at, r, line, values, starts, marks),
-        _ => {
-            say::unread(at);
-            r
-        }
+        names::CLOCK | names::ON => words::time(line, 1, script::arguments(line)),
+        names::COUNT | names::METER | names::RATE => words::small(line, 1),
+        _ => 0,
     }
 }
 
-// ---- with the store as it is lent
+fn event(name: u64, n: u64) -> Event {
+    match name {
+        names::COUNT => Event::Count(kept::narrow(n)),
+        names::CLOCK => Event::Clock(n),
+        names::OFF => Event::Off,
+        names::ON => Event::On(n),
+        names::ACCESS => Event::Access,
+        names::METER => Event::Meter(kept::narrow(n)),
+        names::RESET => Event::Reset,
+        names::RATE => Event::Rate(kept::narrow(n)),
+        _ => Event::Reverse,
+    }
+}
 
-fn with_store(
-    at: u64,
+fn step_lent(
+    event: Event,
     r: Recorder,
-    asked: OfMeter,
-    line: &[u8],
+    v: usize,
+    s: usize,
+    m: usize,
     values: &mut [u16],
     starts: &mut [u32],
-    marks: &mut [u64],
-) -> Recorder {
-    match asked {
-        OfMeter::SetUp(start) => set_up(start, script::word(line, 1), values, starts, marks),
-        OfMeter::Event(event) => step(r, event, values, starts, marks),
-        OfMeter::Poke => poke(at, r, line, values, starts, marks),
-        OfMeter::Day(day) => {
-            show_day(at, class_in(r), day, values, starts, marks);
-            r
-        }
-        OfMeter::Show => {
-            show::recorder(r);
-            r
-        }
+    words: &mut [u64],
+) -> Stepped {
+    r.step(
+        event,
+        memory::first16(values, v),
+        memory::first32(starts, s),
+        memory::first64(words, m),
+    )
+}
+
+pub fn happened(
+    name: u64,
+    line: &[u8],
+    words: &mut Words,
+    values: &mut Values,
+    starts: &mut Starts,
+) -> bool {
+    let n = carried(name, line);
+    if n == words::NONE {
+        return false;
     }
+    let done = step_lent(
+        event(name, n),
+        recorded::recorder(words),
+        kept::length(words, kept::LENT_VALUES),
+        kept::length(words, kept::LENT_STARTS),
+        kept::length(words, kept::LENT_MARKS),
+        values,
+        starts,
+        words,
+    );
+    after(done, words)
+}
+
+// ---- `read N` and `read N ROOM`
+
+fn room_asked(line: &[u8]) -> u64 {
+    if script::arguments(line) == 1 {
+        return blocks::LONGEST;
+    }
+    words::number(line, 2)
 }
 
 fn read_out(
-    r: Recorder,
-    shelves: Shelves,
-    days: u32,
-    room: usize,
+    days: u64,
+    words: &Words,
     values: &[u16],
     starts: &[u32],
     marks: &[u64],
-    blocks: &mut [u8],
-) -> Shelves {
-    let done = readout::read(r, days, values, starts, marks, blocks::output(blocks, room));
-    shelves.sent(done.answer, done.carried)
+    out: &mut [u8],
+) -> u64 {
+    let done = readout::read(
+        recorded::recorder(words),
+        kept::narrow(days),
+        values,
+        starts,
+        marks,
+        out,
+    );
+    blocks::packed(done.answer, done.carried)
 }
 
-impl Meter {
-    pub fn blank() -> Meter {
-        Meter {
-            recorder: Recorder::blank(),
-            lent: Lengths {
-                values: 0,
-                starts: 0,
-                marks: 0,
-            },
-            stands: false,
-        }
-    }
+// With as much of the rows as is lent.
+fn read_lent(days: u64, words: &Words, values: &[u16], starts: &[u32], out: &mut [u8]) -> u64 {
+    let v = kept::length(words, kept::LENT_VALUES);
+    let s = kept::length(words, kept::LENT_STARTS);
+    let m = kept::length(words, kept::LENT_MARKS);
+    read_out(
+        days,
+        words,
+        memory::part16(values, 0, v),
+        memory::part32(starts, 0, s),
+        memory::part64(words, 0, m),
+        out,
+    )
+}
 
-    pub fn lend(mut self, lengths: Lengths) -> Meter {
-        self.lent = lengths;
-        self.stands = true;
-        say::done(0);
-        self
+pub fn read(
+    line: &[u8],
+    words: &mut Words,
+    values: &[u16],
+    starts: &[u32],
+    blocks: &mut [u8],
+) -> bool {
+    let days = words::small(line, 1);
+    let room = room_asked(line);
+    if (days == words::NONE) | (blocks::LONGEST < room) {
+        return false;
     }
-
-    // With the lengths of the recorder's class again.
-    pub fn lend_again(mut self) -> Meter {
-        self.lent = lengths_of(class_in(self.recorder));
-        self.stands = false;
-        say::done(0);
-        self
-    }
-
-    fn lend_for(mut self, start: Start) -> Meter {
-        let class = start.class;
-        if !self.stands {
-            self.lent = lengths_of(class);
-        }
-        self
-    }
-
-    // A set-up lends the lengths of its class.
-    fn prepared(self, asked: OfMeter) -> Meter {
-        match asked {
-            OfMeter::SetUp(start) => self.lend_for(start),
-            _ => self,
-        }
-    }
-
-    fn is_now(mut self, recorder: Recorder) -> Meter {
-        self.recorder = recorder;
-        self
-    }
-
-    // The store is what lies first in the three rows.
-    fn with_lent(
-        self,
-        at: u64,
-        asked: OfMeter,
-        line: &[u8],
-        values: &mut [u16],
-        starts: &mut [u32],
-        marks: &mut [u64],
-    ) -> Meter {
-        let v = memory::smaller(self.lent.values, values.len());
-        let s = memory::smaller(self.lent.starts, starts.len());
-        let m = memory::smaller(self.lent.marks, marks.len());
-        let next = with_store(
-            at,
-            self.recorder,
-            asked,
-            line,
-            &mut values[0..v],
-            &mut starts[0..s],
-            &mut marks[0..m],
-        );
-        self.is_now(next)
-    }
-
-    pub fn obeyed(
-        self,
-        at: u64,
-        asked: OfMeter,
-        line: &[u8],
-        values: &mut [u16],
-        starts: &mut [u32],
-        marks: &mut [u64],
-    ) -> Meter {
-        self.prepared(asked)
-            .with_lent(at, asked, line, values, starts, marks)
-    }
-
-    pub fn read(
-        self,
-        shelves: Shelves,
-        days: u32,
-        room: usize,
-        values: &[u16],
-        starts: &[u32],
-        marks: &[u64],
-        blocks: &mut [u8],
-    ) -> Shelves {
-        let v = memory::smaller(self.lent.values, values.len());
-        let s = memory::smaller(self.lent.starts, starts.len());
-        let m = memory::smaller(self.lent.marks, marks.len());
-        read_out(
-            self.recorder,
-            shelves,
-            days,
-            room,
-            &values[0..v],
-            &starts[0..s],
-            &marks[0..m],
-            blocks,
-        )
-    }
+    let answer = read_lent(
+        days,
+        words,
+        values,
+        starts,
+        blocks::output(blocks, room as usize),
+    );
+    blocks::sent(answer, words)
 }

@@ -30,10 +30,11 @@ pub fn answer(number: u32, carried: u32) {
     end();
 }
 
-pub fn done(carried: usize) {
+pub fn done(carried: u64) -> bool {
     number(0);
-    then(carried as u64);
+    then(carried);
     end();
+    true
 }
 
 // The line with this number can't be understood.
@@ -43,41 +44,33 @@ pub fn unread(line: u64) {
     end();
 }
 
-// Whether a line names something that is there.
-pub fn known(line: u64, known: bool) {
-    if known {
+// A change is done where what it names is there; and whether it is.
+pub fn changed(there: bool) -> bool {
+    if there {
         done(0);
-    } else {
-        unread(line);
     }
-}
-
-fn bit(b: bool) -> u64 {
-    if b { 1 } else { 0 }
-}
-
-pub fn flag(b: bool) {
-    then(bit(b));
+    there
 }
 
 // ---- bytes
 
-fn first(out: &[u8], k: usize) {
+fn first(out: &[u8], k: usize) -> bool {
     text(memory::part(out, 0, k));
+    true
 }
 
-fn show(out: &[u8; 4096], k: usize) {
-    first(out, k);
+fn show(out: &[u8; 4096], k: usize) -> bool {
+    first(out, k)
 }
 
 fn spell(bytes: &[u8], out: &mut [u8; 4096]) -> usize {
     script::hex(bytes, out)
 }
 
-fn hex_part(bytes: &[u8]) {
+fn hex_part(bytes: &[u8]) -> bool {
     let mut out = [0u8; 4096];
     let k = spell(bytes, &mut out);
-    show(&out, k);
+    show(&out, k)
 }
 
 fn next(from: usize, n: usize) -> usize
@@ -88,7 +81,7 @@ fn next(from: usize, n: usize) -> usize
 }
 
 // In hexadecimal, and the end of the line.
-pub fn hex(bytes: &[u8]) {
+pub fn hex(bytes: &[u8]) -> bool {
     let mut from: usize = 0;
     while from < bytes.len() {
         let to = next(from, bytes.len());
@@ -96,14 +89,15 @@ pub fn hex(bytes: &[u8]) {
         from = to;
     }
     end();
+    true
 }
 
 fn list(block: &[u8], out: &mut [u8; 4096]) -> usize {
     lines::listed(block, out)
 }
 
-pub fn listing(block: &[u8]) {
+pub fn listing(block: &[u8]) -> bool {
     let mut out = [0u8; 4096];
     let k = list(block, &mut out);
-    show(&out, k);
+    show(&out, k)
 }

@@ -1,21 +1,17 @@
-use mathlib.Core.Path.{_≡_}
 use Prim.Native.Nat.{_-_, _≤_}
-use native.Mathlib.Omega.{arith}
 use lib.ListN.{length}
 use borrow.Author.Needs.{needs}
 use Rattle.replay.proofs.run.Statement.{statement}
 use Rattle.replay.proofs.run.Tie as tie
 
 abbrev Inv-loop : tie.InvT-loop
-Inv-loop text values₀ starts₀ marks₀ blocks₀ ledger₀ state₀ at₀ from₀ values starts marks blocks ledger state at from =
-    (at ≤ from) × (length values ≡ length values₀) × (length starts ≡ length starts₀) × (length marks ≡ length marks₀) × (length blocks ≡ length blocks₀) × (length ledger ≡ length ledger₀)
+Inv-loop text n words₀ values₀ starts₀ blocks₀ ledger₀ script at₀ from₀ words values starts blocks ledger at from = at ≤ from
 
 abbrev μ-loop : tie.MeasureT-loop
-μ-loop text values₀ starts₀ marks₀ blocks₀ ledger₀ state₀ at₀ from₀ values starts marks blocks ledger state at from =
-    length text - from
+μ-loop text n words₀ values₀ starts₀ blocks₀ ledger₀ script at₀ from₀ words values starts blocks ledger at from = length script - from
 
-begin-requires : tie.Need-begin-requires Inv-loop μ-loop
-begin-requires c κs = search needs
+part-requires : tie.Need-part-requires Inv-loop μ-loop
+part-requires c κs = search needs
 
 loop-holds : tie.Need-loop-holds Inv-loop μ-loop
 loop-holds c = search needs
@@ -38,31 +34,23 @@ add-at c = search needs
 add-from : tie.Need-add-from Inv-loop μ-loop
 add-from c = search needs
 
-played-requires : tie.Need-played-requires Inv-loop μ-loop
-played-requires c κs = search needs
+obeyed-requires : tie.Need-obeyed-requires Inv-loop μ-loop
+obeyed-requires c κs = search needs
+
+unread-requires : tie.Need-unread-requires Inv-loop μ-loop
+unread-requires c κs = search needs
 
 loop-less : tie.Need-loop-less Inv-loop μ-loop
-loop-less c = let e = c .before .before .before .before .before .before .before .before .before .before .before .before .before .before .before .before .before in omega (arith, e .line-end .ensures .1, e .before .loop-test .taken)
+loop-less c = search needs
 
 loop-again : tie.Need-loop-again Inv-loop μ-loop
-loop-again c =
-    let e = c .before .before .before .before .before .before .before .before .before .before .before .before .before .before .before .before .before in
-    (omega (arith, e .line-end .ensures .1, e .before .before .loop .inv .0), search needs, search needs, search needs, search needs, search needs)
+loop-again c = search needs
 
-same-length : tie.Need-same-length Inv-loop μ-loop
-same-length c = search needs
+loop-less-2 : tie.Need-loop-less-2 Inv-loop μ-loop
+loop-less-2 c = search needs
 
-same-length-2 : tie.Need-same-length-2 Inv-loop μ-loop
-same-length-2 c = search needs
-
-same-length-3 : tie.Need-same-length-3 Inv-loop μ-loop
-same-length-3 c = search needs
-
-same-length-4 : tie.Need-same-length-4 Inv-loop μ-loop
-same-length-4 c = search needs
-
-same-length-5 : tie.Need-same-length-5 Inv-loop μ-loop
-same-length-5 c = search needs
+loop-again-2 : tie.Need-loop-again-2 Inv-loop μ-loop
+loop-again-2 c = search needs
 
 returns : tie.Need-returns Inv-loop μ-loop
 returns c = search needs
@@ -73,7 +61,7 @@ run-spec =
     (tie.spec
     Inv-loop
     μ-loop
-    begin-requires
+    part-requires
     loop-holds
     line-end-requires
     sub-line
@@ -81,12 +69,10 @@ run-spec =
     part-line-end
     add-at
     add-from
-    played-requires
+    obeyed-requires
+    unread-requires
     loop-less
     loop-again
-    same-length
-    same-length-2
-    same-length-3
-    same-length-4
-    same-length-5
+    loop-less-2
+    loop-again-2
     returns)

@@ -1,21 +1,28 @@
-use mathlib.Core.Path.{_≡_}
-use Prim.Native.Nat.{_-_}
-use lib.ListN.{length}
+use Prim.Native.Nat.{_-_, _*_, _≤_}
 use borrow.Author.Needs.{needs}
 use Rattle.replay.proofs.given.take_days.Statement.{statement}
 use Rattle.replay.proofs.given.take_days.Tie as tie
 
 abbrev Inv-loop : tie.InvT-loop
-Inv-loop block n values₀ starts₀ marks₀ i₀ values starts marks i = (length values ≡ length values₀) × (length starts ≡ length starts₀) × (length marks ≡ length marks₀)
+Inv-loop block n words₀ values₀ starts₀ i₀ words values starts i = i ≤ 52 * n
 
 abbrev μ-loop : tie.MeasureT-loop
-μ-loop block n values₀ starts₀ marks₀ i₀ values starts marks i = n - i
+μ-loop block n words₀ values₀ starts₀ i₀ words values starts i = 52 * n - i
 
 loop-holds : tie.Need-loop-holds Inv-loop μ-loop
 loop-holds c = search needs
 
-take-day-requires : tie.Need-take-day-requires Inv-loop μ-loop
-take-day-requires c κs = search needs
+mul-loop : tie.Need-mul-loop Inv-loop μ-loop
+mul-loop c = search needs
+
+number-requires : tie.Need-number-requires Inv-loop μ-loop
+number-requires c κs = search needs
+
+of-day-requires : tie.Need-of-day-requires Inv-loop μ-loop
+of-day-requires c κs = search needs
+
+put-requires : tie.Need-put-requires Inv-loop μ-loop
+put-requires c κs = search needs
 
 add-i : tie.Need-add-i Inv-loop μ-loop
 add-i c = search needs
@@ -25,15 +32,6 @@ loop-less c = search needs
 
 loop-again : tie.Need-loop-again Inv-loop μ-loop
 loop-again c = search needs
-
-same-length : tie.Need-same-length Inv-loop μ-loop
-same-length c = search needs
-
-same-length-2 : tie.Need-same-length-2 Inv-loop μ-loop
-same-length-2 c = search needs
-
-same-length-3 : tie.Need-same-length-3 Inv-loop μ-loop
-same-length-3 c = search needs
 
 returns : tie.Need-returns Inv-loop μ-loop
 returns c = search needs
@@ -45,11 +43,11 @@ take-days-spec =
     Inv-loop
     μ-loop
     loop-holds
-    take-day-requires
+    mul-loop
+    number-requires
+    of-day-requires
+    put-requires
     add-i
     loop-less
     loop-again
-    same-length
-    same-length-2
-    same-length-3
     returns)

@@ -6,10 +6,13 @@ use Rattle.replay.proofs.memory.clear.Statement.{statement}
 use Rattle.replay.proofs.memory.clear.Tie as tie
 
 abbrev Inv-loop : tie.InvT-loop
-Inv-loop bytes₀ i₀ bytes i = length bytes ≡ length bytes₀
+Inv-loop bytes₀ from to end i₀ bytes i = length bytes ≡ length bytes₀
 
 abbrev μ-loop : tie.MeasureT-loop
-μ-loop bytes₀ i₀ bytes i = length bytes₀ - i
+μ-loop bytes₀ from to end i₀ bytes i = end - i
+
+smaller-requires : tie.Need-smaller-requires Inv-loop μ-loop
+smaller-requires c κs = search needs
 
 loop-holds : tie.Need-loop-holds Inv-loop μ-loop
 loop-holds c = search needs
@@ -38,6 +41,7 @@ clear-spec =
     (tie.spec
     Inv-loop
     μ-loop
+    smaller-requires
     loop-holds
     slice-write-bytes
     add-i

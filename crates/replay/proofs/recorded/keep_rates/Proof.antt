@@ -1,13 +1,13 @@
 use Prim.Native.Nat.{_-_, _≤_}
 use borrow.Author.Needs.{needs}
-use Rattle.replay.proofs.show.rates.Statement.{statement}
-use Rattle.replay.proofs.show.rates.Tie as tie
+use Rattle.replay.proofs.recorded.keep_rates.Statement.{statement}
+use Rattle.replay.proofs.recorded.keep_rates.Tie as tie
 
 abbrev Inv-loop : tie.InvT-loop
-Inv-loop rates i₀ i = i ≤ 8
+Inv-loop words₀ rates i₀ words i = i ≤ 8
 
 abbrev μ-loop : tie.MeasureT-loop
-μ-loop rates i₀ i = 8 - i
+μ-loop words₀ rates i₀ words i = 8 - i
 
 loop-holds : tie.Need-loop-holds Inv-loop μ-loop
 loop-holds c = search needs
@@ -18,8 +18,14 @@ mul-rate c = search needs
 array-copy-out-rate : tie.Need-array-copy-out-rate Inv-loop μ-loop
 array-copy-out-rate c = search needs
 
-then-requires : tie.Need-then-requires Inv-loop μ-loop
-then-requires c κs = search needs
+add-words : tie.Need-add-words Inv-loop μ-loop
+add-words c = search needs
+
+mul-words : tie.Need-mul-words Inv-loop μ-loop
+mul-words c = search needs
+
+element-write-words : tie.Need-element-write-words Inv-loop μ-loop
+element-write-words c = search needs
 
 add-i : tie.Need-add-i Inv-loop μ-loop
 add-i c = search needs
@@ -33,8 +39,8 @@ loop-again c = search needs
 returns : tie.Need-returns Inv-loop μ-loop
 returns c = search needs
 
-pub rates-spec : {M : Type 1} → statement M
-rates-spec =
+pub keep-rates-spec : {M : Type 1} → statement M
+keep-rates-spec =
     tie.close
     (tie.spec
     Inv-loop
@@ -42,7 +48,9 @@ rates-spec =
     loop-holds
     mul-rate
     array-copy-out-rate
-    then-requires
+    add-words
+    mul-words
+    element-write-words
     add-i
     loop-less
     loop-again

@@ -1,15 +1,13 @@
-use mathlib.Core.Path.{_≡_}
-use Prim.Native.Nat.{_-_}
-use lib.ListN.{length}
+use Prim.Native.Nat.{_-_, _≤_}
 use borrow.Author.Needs.{needs}
-use Rattle.replay.proofs.meter.identifier.Statement.{statement}
-use Rattle.replay.proofs.meter.identifier.Tie as tie
+use Rattle.replay.proofs.kept.keep_letters.Statement.{statement}
+use Rattle.replay.proofs.kept.keep_letters.Tie as tie
 
 abbrev Inv-loop : tie.InvT-loop
-Inv-loop word id₀ i₀ id i = length id ≡ 12
+Inv-loop words₀ from bytes i₀ words i = i ≤ 12
 
 abbrev μ-loop : tie.MeasureT-loop
-μ-loop word id₀ i₀ id i = 12 - i
+μ-loop words₀ from bytes i₀ words i = 12 - i
 
 loop-holds : tie.Need-loop-holds Inv-loop μ-loop
 loop-holds c = search needs
@@ -17,8 +15,14 @@ loop-holds c = search needs
 byte-at-requires : tie.Need-byte-at-requires Inv-loop μ-loop
 byte-at-requires c κs = search needs
 
-array-write-id : tie.Need-array-write-id Inv-loop μ-loop
-array-write-id c = search needs
+add-words : tie.Need-add-words Inv-loop μ-loop
+add-words c = search needs
+
+mul-words : tie.Need-mul-words Inv-loop μ-loop
+mul-words c = search needs
+
+element-write-words : tie.Need-element-write-words Inv-loop μ-loop
+element-write-words c = search needs
 
 add-i : tie.Need-add-i Inv-loop μ-loop
 add-i c = search needs
@@ -32,15 +36,17 @@ loop-again c = search needs
 returns : tie.Need-returns Inv-loop μ-loop
 returns c = search needs
 
-pub identifier-spec : {M : Type 1} → statement M
-identifier-spec =
+pub keep-letters-spec : {M : Type 1} → statement M
+keep-letters-spec =
     tie.close
     (tie.spec
     Inv-loop
     μ-loop
     loop-holds
     byte-at-requires
-    array-write-id
+    add-words
+    mul-words
+    element-write-words
     add-i
     loop-less
     loop-again
