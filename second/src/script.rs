@@ -1,9 +1,13 @@
 //! An interpreter of docs/REPLAY.md: it plays a script line by line and answers
 //! each line with the text that the proved program must print.
 
+mod words;
+
+use words::*;
+
 use crate::answer::{Answer, DONE};
-use crate::block::{self, Day, Fields, Header, RATES};
-use crate::calendar::{self, HALF_HOURS, SECONDS_PER_DAY};
+use crate::block::{self, Day, Fields, Header};
+use crate::calendar::HALF_HOURS;
 use crate::identifier::{self, Identifier};
 use crate::ledger;
 use crate::listing;
@@ -14,8 +18,6 @@ pub const MOST_SCRIPT_BYTES: usize = 2_000_000;
 pub const KEPT_BLOCKS: usize = 32;
 pub const LONGEST_STORE: StoreLength = Class::D.store_length();
 pub const MOST_LEDGER_BYTES: usize = ledger::bytes_for(ledger::MOST_DAYS as usize);
-
-const MOST_DIGITS: usize = 18;
 
 /// All that a script works on.
 pub struct Player {
@@ -52,118 +54,6 @@ pub fn play(script: &[u8]) -> Vec<Played> {
         }
     }
     played
-}
-
-type Word<'a> = &'a [u8];
-
-/// A whole number of at most 18 digits.
-fn number(word: Word) -> Option<u64> {
-    if word.is_empty() || word.len() > MOST_DIGITS {
-        return None;
-    }
-    calendar::digits(word)
-}
-
-fn number_below(word: Word, end: usize) -> Option<usize> {
-    number(word).and_then(|number| usize::try_from(number).ok()).filter(|&number| number < end)
-}
-
-fn number_up_to(word: Word, most: usize) -> Option<usize> {
-    number(word).and_then(|number| usize::try_from(number).ok()).filter(|&number| number <= most)
-}
-
-fn number_u8(word: Word) -> Option<u8> {
-    u8::try_from(number(word)?).ok()
-}
-
-fn number_u16(word: Word) -> Option<u16> {
-    u16::try_from(number(word)?).ok()
-}
-
-fn number_u32(word: Word) -> Option<u32> {
-    u32::try_from(number(word)?).ok()
-}
-
-/// A number of 32 bits that the oracle holds in a wider one.
-fn number_32_bits(word: Word) -> Option<u64> {
-    number_u32(word).map(u64::from)
-}
-
-fn yes_or_no(word: Word) -> Option<bool> {
-    match number(word)? {
-        0 => Some(false),
-        1 => Some(true),
-        _ => None,
-    }
-}
-
-fn after_at(word: Word) -> Option<Word> {
-    word.strip_prefix(b"@")
-}
-
-fn day(word: Word) -> Option<u64> {
-    match after_at(word) {
-        Some(word) => number_32_bits(word),
-        None => calendar::read_date(word),
-    }
-}
-
-/// A time at the front of the words, and the words behind it.
-fn time<'a, 'b>(words: &'b [Word<'a>]) -> Option<(u64, &'b [Word<'a>])> {
-    let (first, rest) = words.split_first()?;
-    if let Some(word) = after_at(first) {
-        return Some((number(word)?, rest));
-    }
-    let (second, rest) = rest.split_first()?;
-    Some((calendar::read_date(first)? * SECONDS_PER_DAY + calendar::read_seconds(second)?, rest))
-}
-
-/// Words that are one time and nothing else.
-fn only_time(words: &[Word]) -> Option<u64> {
-    match time(words)? {
-        (time, []) => Some(time),
-        _ => None,
-    }
-}
-
-fn identifier(word: Word) -> Option<Identifier> {
-    word.try_into().ok()
-}
-
-fn class(word: Word) -> Option<Option<Class>> {
-    match word {
-        [letter] if letter.is_ascii_alphabetic() => Some(Class::of_letter(*letter)),
-        _ => None,
-    }
-}
-
-fn rate_index(word: Word) -> Option<usize> {
-    number_up_to(word, RATES)?.checked_sub(1)
-}
-
-fn hexadecimal(word: Word) -> Option<Vec<u8>> {
-    if word.is_empty() || word.len() % 2 != 0 {
-        return None;
-    }
-    let digit = |character: u8| char::from(character).to_digit(16);
-    word.chunks(2)
-        .map(|pair| match pair {
-            [high, low] => u8::try_from(digit(*high)? * 16 + digit(*low)?).ok(),
-            _ => None,
-        })
-        .collect()
-}
-
-fn print_hexadecimal(bytes: &[u8]) -> String {
-    bytes.iter().map(|byte| format!("{byte:02x}")).collect()
-}
-
-fn print(answer: Answer) -> Option<String> {
-    Some(format!("{} {}", answer.number, answer.carried))
-}
-
-fn print_done(carried: usize) -> Option<String> {
-    print(Answer::done(carried))
 }
 
 impl Player {
