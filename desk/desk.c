@@ -1,21 +1,17 @@
-/* A desk: keeps a meter's ledger in a file, files blocks in it, and says what it holds. All that it knows of blocks, ledgers and dates is the library's.
- * A ledger is changed by writing a new file beside it and renaming that, so that a crash leaves the old ledger or the new one, whole. */
+/* A desk: keeps a meter's ledger in a file, files blocks in it, and says what it holds. All that it knows of blocks, ledgers and dates is the library's,
+ * and a ledger's file is read, replaced and locked by files.c. */
 #define _XOPEN_SOURCE 700
 
 #include "cop6.h"
+#include "files.h"
 
 #include <errno.h>
-#include <fcntl.h>
 #include <inttypes.h>
-#include <limits.h>
-#include <stdarg.h>
 #include <stdio.h>
 #include <stdlib.h>
 #include <string.h>
 #include <sys/stat.h>
 #include <unistd.h>
-
-enum { DONE = 0, REFUSED = 1, TROUBLE = 2 };
 
 static const char usage[] =
     "desk open LEDGER IDENTIFIER DATE DAYS   open a new ledger: the meter, the window's first day, 1 to 450 days\n"
@@ -32,18 +28,6 @@ static const char usage[] =
     "or written. A refused block changes nothing; the other blocks of the command are filed all the same.\n";
 
 /* ---- saying what went wrong */
-
-static int trouble(const char *format, ...) {
-    va_list args;
-    va_start(args, format);
-    fputs("desk: ", stderr);
-    vfprintf(stderr, format, args);
-    fputc('\n', stderr);
-    va_end(args);
-    return TROUBLE;
-}
-
-static int trouble_with(const char *path) { return trouble("%s: %s", path, strerror(errno)); }
 
 static const char *meaning(uint32_t answer) {
     switch (answer) {
@@ -74,112 +58,9 @@ static int worse(int a, int b) { return a < b ? b : a; }
 
 /* ---- files */
 
-/* A file's bytes, of which no more are read than one above the most that could be right. */
-struct bytes {
-    uint8_t *at;
-    size_t length;
-};
-
-static int read_all(int fd, const char *path, size_t most, struct bytes *b) {
-    size_t room = most + 1;
-    b->length = 0;
-    b->at = malloc(room);
-    if (b->at == NULL)
-        return trouble_with(path);
-    while (b->length < room) {
-        ssize_t n = read(fd, b->at + b->length, room - b->length);
-        if (n == 0)
-            break;
-        if (n < 0 && errno == EINTR)
-            continue;
-        if (n < 0) {
-            int status = trouble_with(path);
-            free(b->at);
-            b->at = NULL;
-            return status;
-        }
-        b->length += (size_t)n;
-    }
-    return DONE;
-}
-
-static int read_file(const char *path, size_t most, struct bytes *b) {
-    if (strcmp(path, "-") == 0)
-        return read_all(STDIN_FILENO, "standard input", most, b);
-    int fd = open(path, O_RDONLY | O_CLOEXEC);
-    if (fd < 0)
-        return trouble_with(path);
-    int status = read_all(fd, path, most, b);
-    close(fd);
-    return status;
-}
-
 static int read_block(const char *path, struct bytes *b) { return read_file(path, COP6_BLOCK_BYTES(COP6_MOST_DAYS), b); }
 
 static size_t most_ledger(void) { return (size_t)cop6_ledger_length(COP6_MOST_DAYS); }
-
-static int write_all(int fd, const struct bytes *b) {
-    for (size_t done = 0; done < b->length;) {
-        ssize_t n = write(fd, b->at + done, b->length - done);
-        if (n < 0 && errno != EINTR)
-            return -1;
-        if (n > 0)
-            done += (size_t)n;
-    }
-    return 0;
-}
-
-/* Has the folder of a file remember its names. Some file systems know no such thing, and their refusal is passed over. */
-static int keep_names(const char *path) {
-    const char *slash = strrchr(path, '/');
-    char *folder = slash == NULL ? strdup(".") : strndup(path, slash == path ? 1 : (size_t)(slash - path));
-    if (folder == NULL)
-        return -1;
-    int fd = open(folder, O_RDONLY | O_DIRECTORY | O_CLOEXEC);
-    free(folder);
-    if (fd < 0)
-        return -1;
-    int kept = fsync(fd) == 0 || errno == EINVAL || errno == ENOTSUP ? 0 : -1;
-    int why = errno;
-    close(fd);
-    errno = why;
-    return kept;
-}
-
-/* Writes a file beside `path` and gives it that name: a new name, or the name of a file that it replaces. */
-static int save(const char *path, const struct bytes *b, mode_t mode, int is_new) {
-    size_t length = strlen(path);
-    char *beside = malloc(length + sizeof ".XXXXXX");
-    if (beside == NULL)
-        return trouble_with(path);
-    memcpy(beside, path, length);
-    memcpy(beside + length, ".XXXXXX", sizeof ".XXXXXX");
-    int fd = mkstemp(beside);
-    if (fd < 0) {
-        int status = trouble_with(beside);
-        free(beside);
-        return status;
-    }
-    int ok = write_all(fd, b) == 0 && fchmod(fd, mode) == 0 && fsync(fd) == 0;
-    int why = errno;
-    if (close(fd) != 0 && ok) {
-        ok = 0;
-        why = errno;
-    }
-    if (ok) {
-        ok = (is_new ? link(beside, path) : rename(beside, path)) == 0;
-        why = errno;
-    }
-    if (!ok || is_new)
-        unlink(beside);
-    free(beside);
-    if (ok && keep_names(path) != 0) {
-        ok = 0;
-        why = errno;
-    }
-    errno = why;
-    return ok ? DONE : trouble_with(path);
-}
 
 /* ---- the command line */
 
@@ -226,27 +107,6 @@ static int open_ledger(char **args) {
     }
     free(ledger.at);
     return status;
-}
-
-/* Opens a ledger for change: another desk waits until this one is done, and then sees the file that this one leaves. */
-static int lock(const char *path, struct stat *locked) {
-    for (;;) {
-        struct stat named;
-        struct flock whole = {.l_type = F_WRLCK, .l_whence = SEEK_SET};
-        int fd = open(path, O_RDWR | O_CLOEXEC);
-        if (fd < 0)
-            return -1;
-        if (fcntl(fd, F_SETLKW, &whole) == 0 && fstat(fd, locked) == 0 && stat(path, &named) == 0) {
-            if (locked->st_dev == named.st_dev && locked->st_ino == named.st_ino)
-                return fd;
-        } else if (errno != EINTR) {
-            int why = errno;
-            close(fd);
-            errno = why;
-            return -1;
-        }
-        close(fd);
-    }
 }
 
 /* Files the blocks in memory, saves the ledger once, and only then says what they brought. */
