@@ -1,6 +1,6 @@
-// What stays from line to line, beside the blocks and the ledger's bytes: three rows of numbers. The first days of a row are the store's, as many behind
-// them are the given ones. The row of words has the days' marks first and then all else, field by field, so that nothing large goes by value from hand to
-// hand; at first all is 0, as in the blank recorder. A place is a number for each element of the three.
+// What stays from line to line, beside the bytes of blocks and ledger: three rows of numbers, all 0 at first, as the blank recorder has them. A row begins
+// with the days of the store and of as many given days. Behind the days' marks the row of words has all else, field by field: nothing large goes by value
+// from function to function, which would be dear to check. A place is a number that names an element of any of the three.
 ghost use Prim.Native.Nat.{_<_, _≤_};
 use crate::words::MOST;
 use crate::words::MOST_SMALL;
@@ -138,7 +138,7 @@ const LAST_GIVEN_LETTER: usize = 2751;
 
 const LAST_VALUE: usize = 46001;
 
-// The largest number that may lie at a place.
+// The largest number that `poke` and `given` may put at a place.
 fn most(at: usize) -> u64 {
     match at {
         CLASS => 4,
@@ -183,7 +183,7 @@ pub fn get(at: usize, words: &Words, values: &Values, starts: &Starts) -> u64 {
     0
 }
 
-// ---- a word by itself
+// ---- a word by itself. A call that reads it is cheaper to check than the element of a row.
 
 pub fn word(words: &Words, i: usize) -> u64 {
     if i < VALUE { words[i] } else { 0 }
@@ -245,7 +245,7 @@ fn byte_at(bytes: &[u8], i: usize) -> u64 {
     if i < bytes.len() { wide8(bytes[i]) } else { 0 }
 }
 
-// Twelve letters: 0 for those that the bytes don't have.
+// Twelve letters become those of a row of bytes, 0 where it has none.
 pub fn keep_letters(words: &mut Words, from: usize, bytes: &[u8])
     requires { ⌜ from < 2790 ⌝ }
 {

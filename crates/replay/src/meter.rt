@@ -71,6 +71,7 @@ fn can_start(line: &[u8]) -> bool {
         & (words::small(line, n) != words::NONE)
 }
 
+// The numbers of a set-up, n words long.
 fn keep_start(line: &[u8], n: usize, words: &mut Words) {
     words[kept::WEIGHT] = words::number(line, 3);
     words[kept::TIME] = words::time(line, 4, words::less(n, 2));
@@ -89,6 +90,7 @@ fn start(line: &[u8], words: &mut Words) {
     keep_start(line, script::arguments(line), words);
 }
 
+// The store is what lies first in the rows, as much of it as is lent.
 fn set_up_lent(
     r: Recorder,
     v: usize,
@@ -176,7 +178,8 @@ fn event(name: u64, n: u64) -> Event {
 }
 
 fn step_lent(
-    event: Event,
+    name: u64,
+    n: u64,
     r: Recorder,
     v: usize,
     s: usize,
@@ -186,13 +189,14 @@ fn step_lent(
     words: &mut [u64],
 ) -> Stepped {
     r.step(
-        event,
+        event(name, n),
         memory::first16(values, v),
         memory::first32(starts, s),
         memory::first64(words, m),
     )
 }
 
+// One of the nine events.
 pub fn happened(
     name: u64,
     line: &[u8],
@@ -205,7 +209,8 @@ pub fn happened(
         return false;
     }
     let done = step_lent(
-        event(name, n),
+        name,
+        n,
         recorded::recorder(words),
         kept::length(words, kept::LENT_VALUES),
         kept::length(words, kept::LENT_STARTS),

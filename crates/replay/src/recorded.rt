@@ -36,6 +36,24 @@ fn rates(words: &Words) -> [WattHours; 8] {
     rates
 }
 
+fn demand(words: &Words) -> Demand {
+    Demand {
+        current: CentiKilowatts(kept::word(words, kept::CURRENT)),
+        previous: CentiKilowatts(kept::word(words, kept::PREVIOUS)),
+        cumulative: CentiKilowatts(kept::word(words, kept::SUMMED)),
+        reset: kept::small(words, kept::RESET),
+        count: kept::small(words, kept::RESETS),
+    }
+}
+
+fn running(words: &Words) -> Running {
+    Running {
+        base: RegisterUnits(kept::word(words, kept::BASE)),
+        reverse: kept::is_set(words, kept::REVERSE),
+        level2: kept::is_set(words, kept::LEVEL2),
+    }
+}
+
 pub fn recorder(words: &Words) -> Recorder {
     let identity = Identity {
         identifier: kept::identifier(words, kept::LETTER),
@@ -59,24 +77,6 @@ pub fn recorder(words: &Words) -> Recorder {
         energy: energy,
         demand: demand(words),
         running: running(words),
-    }
-}
-
-fn demand(words: &Words) -> Demand {
-    Demand {
-        current: CentiKilowatts(kept::word(words, kept::CURRENT)),
-        previous: CentiKilowatts(kept::word(words, kept::PREVIOUS)),
-        cumulative: CentiKilowatts(kept::word(words, kept::SUMMED)),
-        reset: kept::small(words, kept::RESET),
-        count: kept::small(words, kept::RESETS),
-    }
-}
-
-fn running(words: &Words) -> Running {
-    Running {
-        base: RegisterUnits(kept::word(words, kept::BASE)),
-        reverse: kept::is_set(words, kept::REVERSE),
-        level2: kept::is_set(words, kept::LEVEL2),
     }
 }
 
@@ -120,7 +120,7 @@ pub fn keep(recorder: Recorder, words: &mut Words) {
     keep_demand(demand, words);
 }
 
-// That of the blank recorder.
+// The identity of the blank recorder.
 pub fn keep_no_identity(words: &mut Words) {
     kept::keep_letters(words, kept::LETTER, b"");
     words[kept::CLASS] = 0;
