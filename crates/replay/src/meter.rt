@@ -123,14 +123,6 @@ fn after(done: Stepped, words: &mut Words) -> bool {
     true
 }
 
-// After a refusal the recorder is the blank one.
-fn after_set_up(done: Stepped, words: &mut Words) -> bool {
-    if done.answer != 0 {
-        recorded::keep_no_identity(words);
-    }
-    after(done, words)
-}
-
 fn begin(words: &mut Words, values: &mut Values, starts: &mut Starts) -> bool {
     let done = set_up_lent(
         recorded::recorder(words),
@@ -141,7 +133,7 @@ fn begin(words: &mut Words, values: &mut Values, starts: &mut Starts) -> bool {
         starts,
         words,
     );
-    after_set_up(done, words)
+    after(done, words)
 }
 
 pub fn set_up(line: &[u8], words: &mut Words, values: &mut Values, starts: &mut Starts) -> bool {

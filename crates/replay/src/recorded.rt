@@ -80,7 +80,25 @@ pub fn recorder(words: &Words) -> Recorder {
     }
 }
 
-// ---- back, but for the identity, which no event changes
+// ---- back
+
+fn class_number(class: Class) -> u64 {
+    match class {
+        Class::A => 1,
+        Class::B => 2,
+        Class::C => 3,
+        Class::D => 4,
+        Class::Blank => 0,
+    }
+}
+
+fn keep_identity(identity: Identity, words: &mut Words) {
+    let id = identity.identifier;
+    let class = identity.class;
+    words[kept::CLASS] = class_number(class);
+    words[kept::WEIGHT] = identity.weight.0;
+    kept::keep_letters(words, kept::LETTER, &id);
+}
 
 fn keep_rates(rates: [WattHours; 8], words: &mut Words) {
     let mut i: usize = 0;
@@ -108,6 +126,7 @@ fn keep_demand(demand: Demand, words: &mut Words) {
 }
 
 pub fn keep(recorder: Recorder, words: &mut Words) {
+    let identity = recorder.identity;
     let energy = recorder.energy;
     let demand = recorder.demand;
     words[kept::TIME] = recorder.clock.time;
@@ -116,13 +135,7 @@ pub fn keep(recorder: Recorder, words: &mut Words) {
     words[kept::BASE] = recorder.running.base.0;
     words[kept::REVERSE] = kept::bit(recorder.running.reverse);
     words[kept::LEVEL2] = kept::bit(recorder.running.level2);
+    keep_identity(identity, words);
     keep_energy(energy, words);
     keep_demand(demand, words);
-}
-
-// The identity of the blank recorder.
-pub fn keep_no_identity(words: &mut Words) {
-    kept::keep_letters(words, kept::LETTER, b"");
-    words[kept::CLASS] = 0;
-    words[kept::WEIGHT] = 0;
 }
