@@ -1,4 +1,4 @@
--- Pulses as a wrapping difference, and what a count can come to; each law concludes what a proof of the code looks for.
+-- Pulses as a wrapping difference, what a count can come to and what it does; each law concludes what a proof of the code looks for.
 -- Assumes nothing.
 use Prim.Native.Nat.{ℕ, _+_, _-_, _*_, _%_, _^_, _<_, _≤_}
 use mathlib.Core.Path.{_≡_, ap}
@@ -6,11 +6,12 @@ use mir.Syntax.{w64}
 use mir.Val.{Fits}
 use native.Mathlib.Nat.{mul-le-mul}
 use native.Mathlib.Omega.{arith}
+use lib.ListN.{getD, set}
 use Rattle.quantity.specs.declared.RegisterUnits.{RegisterUnits}
 use Rattle.quantity.specs.declared.WattHours.{WattHours}
-use Rattle.quantity.specs.Units.{wattHours, units, readingOf, readingGap}
+use Rattle.quantity.specs.Units.{wattHours, units, readingOf, readingGap, energySum}
 use Rattle.registers.specs.declared.Energy.{Energy}
-use Rattle.registers.specs.Energy.{Countable, mostAdded, pulsesOf, addedOf, unitsWith}
+use Rattle.registers.specs.Energy.{Countable, noEnergy, mostAdded, pulsesOf, addedOf, unitsWith, energyCounted}
 
 -- a difference that runs round at 2^32 is the difference modulo 2^32
 pub wrapped : (c last p : ℕ) → c < 2 ^ 32 → last < 2 ^ 32 → p < 2 ^ 32 → (p + last) % 2 ^ 32 ≡ c → p ≡ pulsesOf last c
@@ -21,6 +22,13 @@ added-few w e p g h = mul-le-mul {n₂ = 4294967295} {m₂ = 100} (omega arith) 
 
 pub added-fits : (w : WattHours) (e : Energy) (p : ℕ) → Countable w e → p < 2 ^ 32 → Fits w64 (p * w .0)
 added-fits w e p g h = let q = added-few w e p g h in omega arith
+
+-- a Count: the total and the active rate's register with what is added
+pub counted-is : (w : WattHours) (c : ℕ) (e : Energy) (more total register : WattHours) → more ≡ addedOf w (e .last) c → total ≡ energySum (e .total) more
+    → register ≡ energySum (getD (e .rates) (e .rate - 1) noEnergy) more
+    → record { total = total; last = c; rate = e .rate; rates = set (e .rates) (e .rate - 1) register } ≡ energyCounted w c e
+unfolding energyCounted
+counted-is w c e more total register p q r = rw (q, r, p)
 
 -- the units after a count, as the code reckons them: the sum fits, they are no fewer than now, and they are what is defined
 module _ (w : WattHours) (e : Energy) (g : Countable w e) (more : WattHours) (few : more .0 ≤ mostAdded) where

@@ -1,4 +1,4 @@
-use Rattle.registers.specs.Energy.{energyCounted}
+use Rattle.registers.proofs.Laws.{counted-is}
 use borrow.Author.Needs.{needs}
 use Rattle.registers.proofs.Energy.counted.Statement.{statement}
 use Rattle.registers.proofs.Energy.counted.Tie as tie
@@ -31,8 +31,7 @@ element-set-from-self : tie.Need-element-set-from-self
 element-set-from-self c = search needs
 
 returns : tie.Need-returns
-unfolding energyCounted
-returns c = cc
+returns c = search counted-is
 
 pub counted-spec : {M : Type 1} → statement M
 counted-spec =
