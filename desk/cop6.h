@@ -1,8 +1,8 @@
 /* The desk's library: blocks read from outstations, the ledger of one meter, the listing.
  *
- * Link target/staticlib/libdesk.a, which `rt staticlib desk` proves and writes. Every function in it is proved against its contract in
- * crates/desk/src/lib.rt. It takes any bytes and any numbers, asks for no memory, keeps nothing between calls, and may be called from several
- * threads as long as no two of them are lent the same memory that one of them changes.
+ * Link libcop6.a: desk/build proves it and writes target/desk/libcop6.a, desk/install puts it, this header and a pkg-config file where they belong. Every
+ * function in it is proved against its contract in crates/desk/src/lib.rt. It takes any bytes and any numbers, asks for no memory, keeps nothing between
+ * calls, and may be called from several threads as long as no two of them are lent the same memory that one of them changes.
  *
  * What is lent: a pointer and how many elements it has. A pointer may be null where that number is 0. Two slices lent to one call must not overlap.
  *
@@ -17,6 +17,8 @@
 
 #include <stddef.h>
 #include <stdint.h>
+
+#define COP6_VERSION "1.0.0"
 
 #ifdef __cplusplus
 extern "C" {
@@ -47,6 +49,7 @@ enum {
 #define COP6_BLOCK_BYTES(days) (112 + 219 * (size_t)(days))
 #define COP6_LISTING_BYTES(days) (30 + 32 * (size_t)(days)) /* also enough for the text of a refusal */
 #define COP6_HALVES 48                         /* half-hours of a day */
+#define COP6_RATES 8                           /* rate registers */
 
 /* ---- blocks */
 
@@ -56,6 +59,23 @@ uint64_t cop6_read(const uint8_t *block, size_t length);
 /* Writes the listing of a block as text: a line for the block and one for each day, or REFUSED and the reader's answer. Returns the bytes written, with
  * no byte 0 behind them; 0 where `out` is too short, which then stays as it was. The text has COP6_LISTING_BYTES(days) bytes; out's other bytes stay. */
 uint64_t cop6_listing(const uint8_t *block, size_t length, uint8_t *out, size_t room);
+
+/* The header of a block, written as 28 numbers in the block's own order. 0 carries its number of days; 8; 9 carries an offset; 10; 7 carries 28, where
+ * `room` is less. Elements past the 28th stay as they were. */
+enum {
+    COP6_HEAD_IDENTIFIER,  /* the identifier's twelve characters, a number each */
+    COP6_HEAD_TIME = COP6_HEAD_IDENTIFIER + COP6_IDENTIFIER, /* time of reading, in seconds from 2000-01-01 00:00:00 */
+    COP6_HEAD_KWH,         /* kWh register */
+    COP6_HEAD_CURRENT,     /* current demand, in hundredths of a kW, */
+    COP6_HEAD_PREVIOUS,    /* previous demand, */
+    COP6_HEAD_CUMULATIVE,  /* and cumulative demand */
+    COP6_HEAD_RESET,       /* last reset: 0 for never, else its day's number plus one */
+    COP6_HEAD_RESETS,      /* reset count */
+    COP6_HEAD_RATES,       /* eight rate registers, in kWh */
+    COP6_HEAD_DAYS = COP6_HEAD_RATES + COP6_RATES, /* number of days */
+    COP6_HEADER            /* how many numbers these are */
+};
+uint64_t cop6_header(const uint8_t *block, size_t length, uint64_t *out, size_t room);
 
 /* ---- days */
 
@@ -79,6 +99,24 @@ uint64_t cop6_open(uint8_t *ledger, size_t length, const uint8_t *identifier, si
  * 8, 9 with the offset, 10; 11; 12. */
 uint64_t cop6_file(uint8_t *ledger, size_t length, const uint8_t *block, size_t block_length);
 
+/* What filing a block would be refused with 12 for: the first day of the window, and the first part of that day, of which the ledger and the block have
+ * something else. 0 carries 1 where there is one, and four numbers are written; 0 where there is none, and the four are 0. 4, 5, 8, 9, 10 and 11 as
+ * cop6_file; then 7 carries 4, where `room` is less. Elements past the fourth stay as they were; the ledger is not changed. */
+enum {
+    COP6_DIFFERS_DAY,  /* the day's number */
+    COP6_DIFFERS_PART, /* COP6_PART_START, COP6_PART_HALF + j for half-hour j, COP6_PART_FLAGS */
+    COP6_DIFFERS_HELD, /* what the ledger has: the start reading; the half-hour, for COP6_HALF_VALUE, COP6_HALF_REVERSE and COP6_HALF_LEVEL2; the flags */
+    COP6_DIFFERS_SENT, /* and what the block has */
+    COP6_DIFFERENCE    /* how many numbers these are */
+};
+#define COP6_PART_START 0
+#define COP6_PART_HALF 1
+#define COP6_PART_FLAGS (COP6_PART_HALF + COP6_HALVES)
+uint64_t cop6_differs(const uint8_t *ledger, size_t length, const uint8_t *block, size_t block_length, uint64_t *out, size_t room);
+
+/* The meter's identifier, written as twelve characters. 0 carries 0; 4; 5; 7 carries 12, where `room` is less. Bytes past the twelfth stay as they were. */
+uint64_t cop6_identifier(const uint8_t *ledger, size_t length, uint8_t *out, size_t room);
+
 /* The window. 0 carries its first day, COP6_FIRST, and how many days it has, COP6_COUNT; 4; 5. */
 uint64_t cop6_window(const uint8_t *ledger, size_t length);
 
@@ -96,6 +134,12 @@ enum {
     COP6_SUMMARY  /* how many numbers these are */
 };
 uint64_t cop6_summary(const uint8_t *ledger, size_t length, uint32_t day, uint64_t *out, size_t room);
+
+/* The daily flags of a day. 0 carries them, and 0 where fewer than 48 half-hours are held: flags are held of a whole day only; 4; 5; 6. */
+#define COP6_FLAG_POWER 0x80u /* power was lost */
+#define COP6_FLAG_METER 0x40u /* the meter was changed */
+#define COP6_FLAG_RESET 0x20u /* the maximum demand was reset */
+uint64_t cop6_flags(const uint8_t *ledger, size_t length, uint32_t day);
 
 /* The half-hours of a day, written as 48 numbers, 0 for one that is not held. 0 carries how many are held, from the first on; 4; 5; 6; 7 carries 48,
  * where `room` is less. Elements past the 48th stay as they were. The macros take one of the numbers apart. */
