@@ -1,4 +1,5 @@
 pub mod Agree
+pub mod Parts
 pub mod Cut
 pub mod Offer
 pub mod Fold

@@ -2,7 +2,7 @@
 -- Assumes nothing.
 use Prim.Native.Nat.{ℕ, zero, suc, _+_, _-_, _*_, _≤_, _<_}
 use mathlib.Core.Path.{_≡_, refl, sym, ap, _∙_}
-use mathlib.Core.Bool.{Bool, true, false, not, _&&_, and-true, and-assoc}
+use mathlib.Core.Bool.{Bool, true, false, not, _&&_, and-true, and-assoc, true≢false}
 use mathlib.Core.List.{List, [], _∷_}
 use mathlib.Core.Logic.{_↔_}
 use native.Mathlib.Numerals.{add-one}
@@ -10,9 +10,9 @@ use native.Mathlib.Decide.{ℕ-discrete, decLt}
 use native.Mathlib.Omega.{arith}
 use lib.Dec.{leb}
 use borrow.Author.Tests.{not-true, not-false, leb-true, le-leb}
-use Rattle.laws.specs.Tests.{andAll, allTrue, allBelow, sumBelow}
-use Rattle.laws.proofs.Bools.{and-left, and-right, no-right, bool-eq}
-use Rattle.laws.proofs.Split.{by-dec}
+use Rattle.laws.specs.Tests.{andAll, allTrue, allBelow, firstOut, sumBelow}
+use Rattle.laws.proofs.Bools.{and-left, and-right, both, no-right, bool-eq}
+use Rattle.laws.proofs.Split.{by-test, by-dec}
 
 -- ---- the tests of a list
 
@@ -119,6 +119,44 @@ module _ (p : ℕ → Bool) (n : ℕ) where
 
   pub all-done : (i : ℕ) → All p n i → n ≤ i → true ≡ allBelow p n
   all-done i a h = let e : i ≡ n = omega (arith, a .at-most) in sym (rw e at (a .so-far))
+
+-- ---- the first test that fails
+
+pub out-at : (p : ℕ → Bool) (n i : ℕ) → i < n → allBelow p i ≡ true → p i ≡ false → firstOut p n ≡ i
+unfolding firstOut
+out-at p zero i l a f = absurd (omega arith)
+out-at p (suc n) zero l a f = rw f
+out-at p (suc n) (suc i) l a f =
+    let c = both (p 0) (allBelow (λ (k : ℕ). p (suc k)) i) (sym (all-cons p i) ∙ a) in
+    rw (c .0, out-at (λ (k : ℕ). p (suc k)) n i (omega arith) (c .1) f)
+
+pub out-none : (p : ℕ → Bool) (n : ℕ) → allBelow p n ≡ true → firstOut p n ≡ n
+unfolding firstOut
+out-none p zero a = refl
+out-none p (suc n) a =
+    let c = both (p 0) (allBelow (λ (k : ℕ). p (suc k)) n) (sym (all-cons p n) ∙ a) in
+    rw (c .0, out-none (λ (k : ℕ). p (suc k)) n (c .1))
+
+-- where a test fails it is the first: it fails there, and passes at each number before
+pub out-some : (p : ℕ → Bool) (n : ℕ) → allBelow p n ≡ false → (firstOut p n < n) × (p (firstOut p n) ≡ false) × (allBelow p (firstOut p n) ≡ true)
+unfolding firstOut allBelow
+out-some p zero a = absurd (true≢false a)
+out-some p (suc n) a =
+    by-test (p 0)
+    (λ t.
+    let q : ℕ → Bool = λ (k : ℕ). p (suc k) in
+    let b : allBelow q n ≡ false = rw t at (sym (all-cons p n) ∙ a) in
+    let h = out-some q n b in
+    rw t (omega (arith, h .0), h .1, all-cons p (firstOut q n) ∙ rw (t, h .2)))
+    (λ t. rw t (omega arith, t, refl))
+
+-- a loop that returns at the first failed test
+module _ (p : ℕ → Bool) (n : ℕ) where
+  pub out-stop : (i : ℕ) (r : Bool) → All p n i → i < n → r ≡ p i → not r ≡ true → i ≡ firstOut p n
+  out-stop i r a h e t = sym (out-at p n i h (a .so-far) (sym e ∙ not-true r t))
+
+  pub out-done : (i : ℕ) → All p n i → n ≤ i → n ≡ firstOut p n
+  out-done i a h = sym (out-none p n (sym (all-done p n i a h)))
 
 -- ---- sums
 
