@@ -40,7 +40,8 @@ use Rattle.rooms.specs.View.{viewOf}
 use Rattle.filing.specs.File.{fileOf}
 use Rattle.kept.specs.Desk.{filedAs, fileAll, takenBy}
 use Rattle.kept.specs.Desk as bytes
-use Rattle.kept.proofs.Taken.{view-parsed, parsed-taken}
+use Rattle.filing.proofs.Offered.{view-parsed}
+use Rattle.kept.proofs.Taken.{parsed-taken}
 use Rattle.kept.proofs.Opened.{opened-laws, opened-fresh, window, opened-kept, opened-energy, run-bytes, any-order}
 use Rattle.store.specs.Store.{Store}
 use Rattle.recorder.specs.declared.SetUp.{SetUp}

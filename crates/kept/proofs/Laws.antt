@@ -29,8 +29,8 @@ use Rattle.ledger.proofs.Good.{pack-good}
 use Rattle.rooms.specs.View.{viewOf}
 use Rattle.filing.specs.File.{comparedFrom, comparedLength, identAt, sameMeter, agreeAt, agrees, readOf, fileAnswer, refusal, dayAfter, ledgerAfter, heldOf, newlyHeld, fileOf}
 use Rattle.filing.proofs.Filing.{file-answer}
+use Rattle.filing.proofs.Offered.{offer-fits}
 use Rattle.kept.specs.Desk.{takenBy, filedAs, desk}
-use Rattle.kept.proofs.Taken.{offer-fits}
 
 -- only the head of hd is packed
 pack-head : (hd hc : List ℕ) (n : ℕ) (f : ℕ → Day) → ((p : ℕ) → p < headSize → getD hd p 0 ≡ getD hc p 0) → pack hd n f ≡ pack hc n f

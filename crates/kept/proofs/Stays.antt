@@ -22,7 +22,7 @@ use Rattle.ledger.proofs.Good.{judged-good, slot-fits, pack-good}
 use Rattle.rooms.specs.View.{viewOf}
 use Rattle.filing.specs.File.{readOf, fileAnswer, refusal, dayAfter, ledgerAfter, heldOf, newlyHeld, Filing, filing, fileOf}
 use Rattle.filing.proofs.Filing.{file-judged, file-answer}
-use Rattle.kept.proofs.Taken.{offer-fits}
+use Rattle.filing.proofs.Offered.{offer-fits}
 
 module _ (l b : List ℕ) where
   -- the answer is the first failing check's number
