@@ -79,7 +79,7 @@ unfolding missingOf dayMissing
 missing-asked l d = by-test (eqb (asked l d) 0) (λ t. rw t (eqb-true (asked l d) 0 t)) (λ t. rw t)
 
 module _ (l : List ℕ) (d : ℕ) (m : MissingAnswer) (e : m ≡ missingOf l d) where
-  answer-asked : m .answer ≡ asked l d
+  pub answer-asked : m .answer ≡ asked l d
   answer-asked = ap (λ (x : MissingAnswer). x .answer) e ∙ sym (missing-asked l d)
 
   pub missing-refused : (r : ℕ) → r ≡ oneNumber (m .answer) 0 → (m .answer ≡ 0 → ⊥) → r ≡ missingNumber (missingOf l d)
@@ -96,16 +96,16 @@ module _ (l : List ℕ) (d : ℕ) (m : MissingAnswer) (e : m ≡ missingOf l d) 
 -- ---- rows given
 
 module _ (out xs : List ℕ) (a c r : ℕ) where
-  row-refused : r ≡ oneNumber a 0 → (a ≡ 0 → ⊥) → given out r ≡ giveRow out a xs c
+  pub row-refused : r ≡ oneNumber a 0 → (a ≡ 0 → ⊥) → given out r ≡ giveRow out a xs c
   unfolding giveRow
   row-refused e h = rw (ne-eqb a 0 h, e)
 
   module _ (z : a ≡ 0) (n : ℕ) (len : length xs ≡ n) where
-    row-short : r ≡ oneNumber 7 n → length out < n → given out r ≡ giveRow out a xs c
+    pub row-short : r ≡ oneNumber 7 n → length out < n → given out r ≡ giveRow out a xs c
     unfolding giveRow
     row-short e h = rw (eq-eqb a 0 z, len, lt-leb n (length out) h, e)
 
-    row-given : (m : List ℕ) → r ≡ oneNumber 0 c → n ≤ length out → m ≡ sets out 0 xs → given m r ≡ giveRow out a xs c
+    pub row-given : (m : List ℕ) → r ≡ oneNumber 0 c → n ≤ length out → m ≡ sets out 0 xs → given m r ≡ giveRow out a xs c
     unfolding giveRow
     row-given m e h f = rw (eq-eqb a 0 z, len, le-leb n (length out) h, e, f)
 
@@ -165,30 +165,6 @@ module _ (l : List ℕ) (at k j : ℕ) (e : k ≡ count (dayAt l at)) where
   pub half-none : k ≤ j → 0 ≡ halfNumber (dayAt l at) j
   unfolding halfNumber
   half-none h = let n : count (dayAt l at) ≤ j = omega arith in rw (le-ltb j (count (dayAt l at)) n)
-
-pub record Halves (l out₀ : List ℕ) (at : ℕ) (out : List ℕ) (j : ℕ) : Type 0 where
-  pub at-most : j ≤ 48
-  pub long : 48 ≤ length out
-  pub same : length out ≡ length out₀
-  pub is : out ≡ sets out₀ 0 (table j (halfNumber (dayAt l at)))
-
-module _ (l out₀ : List ℕ) (at : ℕ) where
-  pub halves-none : 48 ≤ length out₀ → Halves l out₀ at out₀ 0
-  halves-none h = record { at-most = omega arith; long = h; same = refl; is = none-stored out₀ 0 (halfNumber (dayAt l at)) }
-
-  module _ (out : List ℕ) (j : ℕ) (h : Halves l out₀ at out j) where
-    pub halves-on : (v : ℕ) → j < 48 → v ≡ halfNumber (dayAt l at) j → Halves l out₀ at (set out j v) (j + 1)
-    halves-on v n e =
-        let z : 0 + j ≡ j = omega arith in
-        record {
-          at-most = omega arith;
-          long = rw length-set (h .long);
-          same = rw length-set (h .same);
-          is = ap (λ (i : ℕ). set out i v) (sym z) ∙ row-next out₀ out 0 j v (halfNumber (dayAt l at)) (h .is) e;
-        }
-
-    pub halves-all : 48 ≤ j → out ≡ sets out₀ 0 (table 48 (halfNumber (dayAt l at)))
-    halves-all n = let z : j ≡ 48 = omega (arith, h .at-most) in rw z at (h .is)
 
 module _ (l : List ℕ) (d : ℕ) (m : MissingAnswer) (e : m ≡ missingOf l d) where
   module _ (out : List ℕ) (r : ℕ) where

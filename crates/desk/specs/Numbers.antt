@@ -2,14 +2,17 @@
 -- against dates YYMMDD.
 use mathlib.Core.Bool.{cond}
 use mathlib.Core.List.{List}
-use Prim.Native.Nat.{ℕ, _+_, _*_}
+use Prim.Native.Nat.{ℕ, _+_, _-_, _*_}
 use lib.Dec.{eqb}
 use Rattle.calendar.specs.declared.Found.{Found}
 use Rattle.calendar.specs.declared.Found.the-variants.{Day, Unreal}
 use Rattle.block.specs.declared.Answer.{Answer}
+use Rattle.days.specs.Day.{flagsOf}
 use Rattle.ledger.specs.declared.MissingAnswer.{MissingAnswer}
 use Rattle.ledger.specs.Layout.{firstOf, daysOf}
+use Rattle.ledger.specs.Rooms.{slot}
 use Rattle.ledger.specs.Judged.{judged}
+use Rattle.ledger.specs.Asked.{asked}
 
 -- 2 ^ 32 times the answer, and what it carries
 abbrev pub oneNumber : ℕ → ℕ → ℕ
@@ -25,6 +28,10 @@ firstAndCount first count = first * 65536 + count
 -- what is missing of a day: the first half-hour, and how many
 abbrev pub missingNumber : MissingAnswer → ℕ
 missingNumber m = oneNumber (m .answer) (firstAndCount (m .first) (m .count))
+
+-- the daily flags of a day, 0 where they are not held
+unfoldable pub flagsNumber : List ℕ → ℕ → ℕ
+flagsNumber l d = cond (eqb (asked l d) 0) (oneNumber 0 (flagsOf (slot l (d - firstOf l)))) (oneNumber (asked l d) 0)
 
 -- the window of a ledger: the first day, and how many; 4 or 5 of one that is not good
 unfoldable pub windowNumber : List ℕ → ℕ
