@@ -1,5 +1,5 @@
 /* Holds the library against the plain C of the same calls, on blocks and ledgers that are right, nearly right and damaged: the same answers, the same
- * bytes. Exit status 0 where they never differ; prints how often each answer was given. */
+ * memory. Prints how often each answer of each call was given. Exit status 0 where the two never differ and every answer that a call can give was seen. */
 #include "cop6.h"
 #include "plain.h"
 #include "sample.h"
@@ -7,23 +7,109 @@
 #include <stdio.h>
 #include <string.h>
 
-enum { MOST = 8, LEDGER = 16 + 114 * MOST, BLOCK = 112 + 219 * MOST };
+enum { ROUNDS = 20000, MOST = 8, LEDGER = 16 + 114 * MOST, BLOCK = 112 + 219 * MOST, FILINGS = 4, LAST_DAY = 36524, CLEAR = 0xee };
+enum { RUNS_ROUND = 10416 }; /* the day in which the readings of a sample's life pass 99,999,999 */
 
-static unsigned long given[16];
+/* ---- what was seen */
+
+enum call { DAY, DATE, LEDGER_LENGTH, READ, LISTING, HEADER, OPEN, FILE_BLOCK, DIFFERS, IDENTIFIER, WINDOW, MISSING, SUMMARY, FLAGS, HALVES, CALLS };
+
+/* Which answers a call can give; a day, date, length or listing is not an answer, and is counted as 0 where there is none to give, else as 1. */
+static const struct {
+    const char *name;
+    uint8_t answers[9];
+    size_t count;
+} calls[CALLS] = {
+    [DAY] = {"day", {0, 1}, 2},
+    [DATE] = {"date", {0, 1}, 2},
+    [LEDGER_LENGTH] = {"ledger_length", {1}, 1},
+    [READ] = {"read", {0, 8, 9, 10}, 4},
+    [LISTING] = {"listing", {0, 1}, 2},
+    [HEADER] = {"header", {0, 7, 8, 9, 10}, 5},
+    [OPEN] = {"open", {0, 4, 6}, 3},
+    [FILE_BLOCK] = {"file", {0, 4, 5, 8, 9, 10, 11, 12}, 8},
+    [DIFFERS] = {"differs", {0, 4, 5, 7, 8, 9, 10, 11}, 8},
+    [IDENTIFIER] = {"identifier", {0, 4, 5, 7}, 4},
+    [WINDOW] = {"window", {0, 4, 5}, 3},
+    [MISSING] = {"missing", {0, 4, 5, 6}, 4},
+    [SUMMARY] = {"summary", {0, 4, 5, 6, 7}, 5},
+    [FLAGS] = {"flags", {0, 4, 5, 6}, 4},
+    [HALVES] = {"halves", {0, 4, 5, 6, 7}, 5},
+};
+static unsigned long given[CALLS][16];
+
+enum first_difference { NONE, START, VALUE, REVERSE, LEVEL2, DAY_FLAGS, DIFFERENCES };
+static const char *const differences[DIFFERENCES] = {"none", "start", "half-hour value", "reverse mark", "Level 2 mark", "flags"};
+static unsigned long first_differences[DIFFERENCES];
 static int differ;
 
-static void same(const char *what, uint64_t library, uint64_t plain) {
-    given[COP6_ANSWER(library) & 15]++;
+static void same(enum call call, uint32_t answer, uint64_t library, uint64_t plain) {
+    given[call][answer & 15]++;
     if (library != plain) {
-        printf("%s: the library answers %u with %u, plain C %u with %u\n", what, COP6_ANSWER(library), COP6_CARRIED(library), COP6_ANSWER(plain),
+        printf("%s: the library answers %u with %u, plain C %u with %u\n", calls[call].name, COP6_ANSWER(library), COP6_CARRIED(library), COP6_ANSWER(plain),
                COP6_CARRIED(plain));
         differ = 1;
     }
 }
 
+static void same_answer(enum call call, uint64_t library, uint64_t plain) { same(call, COP6_ANSWER(library), library, plain); }
+
+static void same_memory(enum call call, const void *library, const void *plain, size_t length) {
+    if (memcmp(library, plain, length) != 0) {
+        printf("%s: the memory left differs\n", calls[call].name);
+        differ = 1;
+    }
+}
+
+/* A refusal leaves the output as clear_output made it. */
+static void kept(enum call call, int refused, const void *output, size_t length) {
+    const uint8_t *at = output;
+    if (refused && (at[0] != CLEAR || memcmp(at, at + 1, length - 1) != 0)) {
+        printf("%s: a refusal changed the output\n", calls[call].name);
+        differ = 1;
+    }
+}
+
+static enum first_difference part_of(const uint64_t *x) {
+    if (x[COP6_DIFFERS_PART] == COP6_PART_START)
+        return START;
+    if (x[COP6_DIFFERS_PART] == COP6_PART_FLAGS)
+        return DAY_FLAGS;
+    if (COP6_HALF_VALUE(x[COP6_DIFFERS_HELD]) != COP6_HALF_VALUE(x[COP6_DIFFERS_SENT]))
+        return VALUE;
+    return COP6_HALF_REVERSE(x[COP6_DIFFERS_HELD]) != COP6_HALF_REVERSE(x[COP6_DIFFERS_SENT]) ? REVERSE : LEVEL2;
+}
+
+/* ---- what is lent */
+
+/* A ledger of the library's and one of the plain C's, a block, and numbers that both may write. */
+struct lent {
+    uint8_t ledger[LEDGER], other[LEDGER], block[BLOCK];
+    size_t length, lent, block_length;
+    uint32_t first, days;
+};
+
+static uint64_t numbers[2][COP6_HALVES + 2];
+static uint8_t bytes[2][COP6_LISTING_BYTES(MOST) + 2];
+
+static void clear_output(void) {
+    memset(numbers, CLEAR, sizeof numbers);
+    memset(bytes, CLEAR, sizeof bytes);
+}
+
+static void same_numbers(enum call call, uint64_t r) {
+    same_memory(call, numbers[0], numbers[1], sizeof numbers[0]);
+    kept(call, COP6_ANSWER(r) != COP6_DONE, numbers[0], sizeof numbers[0]);
+}
+
+/* A length of output that is at times too short, mostly right, at times longer. */
+static size_t some_room(size_t right, uint64_t *seed) {
+    uint32_t chance = sample_next(seed) % 8;
+    return chance == 0 ? sample_next(seed) % right : chance == 1 ? right - 1 : chance == 2 ? right + 2 : right;
+}
+
 /* Bytes that come near to being right: a digit for a digit, a letter, a bit more or less. */
-static void damage(uint8_t *bytes, size_t length, uint64_t *seed) {
-    uint8_t *at = bytes + sample_next(seed) % length;
+static void damage(uint8_t *at, uint64_t *seed) {
     switch (sample_next(seed) % 4) {
     case 0: *at = (uint8_t)('0' + sample_next(seed) % 10); break;
     case 1: *at = (uint8_t)(*at ^ 1u << sample_next(seed) % 8); break;
@@ -32,49 +118,207 @@ static void damage(uint8_t *bytes, size_t length, uint64_t *seed) {
     }
 }
 
-int main(void) {
-    uint64_t seed = 1;
-    for (int round = 0; round < 20000; round++) {
-        uint8_t ledger[LEDGER], other[LEDGER], block[BLOCK];
-        uint64_t x[COP6_SUMMARY], y[COP6_SUMMARY];
-        uint32_t days = 1 + sample_next(&seed) % MOST, first = sample_next(&seed) % 3 == 0 ? 36525 - days : 8820;
-        uint32_t life = sample_next(&seed) % 2;
-        size_t length = (size_t)cop6_ledger_length(days);
-        cop6_open(ledger, length, (const uint8_t *)SAMPLE_METER, 12, first, days);
-        memcpy(other, ledger, length);
-        for (int filing = 0; filing < 4; filing++) {
-            uint32_t sent = sample_next(&seed) % (MOST + 1), day = first + sample_next(&seed) % (days + 2), k = sample_next(&seed) % 48;
-            if (day > 36524)
-                day = 36524;
-            size_t n = sample_block(block, sent, day, k, life + (sample_next(&seed) % 8 == 0));
-            for (uint32_t i = sample_next(&seed) % 3; i > 0; i--)
-                damage(block, sample_next(&seed) % 2 ? n : 112, &seed);
-            if (sample_next(&seed) % 16 == 0)
-                n = sample_next(&seed) % (n + 1);
-            if (sample_next(&seed) % 16 == 0) {
-                size_t at = sample_next(&seed) % length;
-                damage(ledger + at, 1, &seed);
-                other[at] = ledger[at];
-            }
-            size_t lent = sample_next(&seed) % 32 == 0 ? sample_next(&seed) % (length + 1) : length;
-            same("read", cop6_read(block, n), plain_read(block, n));
-            same("file", cop6_file(ledger, lent, block, n), plain_file(other, lent, block, n));
-            memset(x, 0xff, sizeof x);
-            memset(y, 0xff, sizeof y);
-            uint32_t asked = first - 1 + sample_next(&seed) % (days + 2);
-            size_t room = sample_next(&seed) % 8;
-            room = room < COP6_SUMMARY ? room : COP6_SUMMARY;
-            same("summary", cop6_summary(ledger, lent, asked, x, room), plain_summary(other, lent, asked, y, room));
-            if (memcmp(ledger, other, length) != 0 || memcmp(x, y, sizeof x) != 0) {
-                puts("the bytes differ");
-                differ = 1;
-            }
-            if (differ)
-                return 1;
+/* Another flag, mark, value or start in a block that mostly stays right: what a ledger that holds the day must refuse, and tell as the first difference. */
+static void alter(uint8_t *block, uint32_t sent, uint32_t k, uint64_t *seed) {
+    uint32_t what = sample_next(seed) % 5, i = what == 4 ? sent - 1 : sample_next(seed) % sent, ended = i == 0 ? k : COP6_HALVES;
+    uint32_t j = sample_next(seed) % COP6_HALVES;
+    uint8_t *record = block + COP6_BLOCK_BYTES(i);
+    switch (what) {
+    case 0: record[14] ^= (uint8_t)(0x20u << sample_next(seed) % 3); break;
+    case 1: record[207 + j / 8] ^= (uint8_t)(j < ended ? 0x80u >> j % 8 : 0); break;
+    case 2: record[213 + j / 8] ^= (uint8_t)(j < ended ? 0x80u >> j % 8 : 0); break;
+    case 3: memcpy(record + 15 + 4 * j, record + 15 + 4 * (j + 1 < ended ? j + 1 : j), 4); break;
+    default: record[13] ^= 1; break;
+    }
+}
+
+static void make_block(struct lent *l, uint32_t life, uint64_t *seed) {
+    uint32_t sent = sample_next(seed) % (MOST + 1), day = l->first + sample_next(seed) % (l->days + 2), k = sample_next(seed) % COP6_HALVES;
+    if (day > LAST_DAY)
+        day = LAST_DAY;
+    l->block_length = sample_block(l->block, sent, day, k, life + (sample_next(seed) % 8 == 0));
+    if (sent > 0 && sample_next(seed) % 4 == 0)
+        alter(l->block, sent, k, seed);
+    if (sample_next(seed) % 8 == 0)
+        memcpy(l->block + 53, sample_next(seed) % 2 ? "24022907" : "00000001", 8);
+    for (size_t at = 29; at < 109; at += at == 47 ? 14 : 6)
+        l->block[at + l->days % 6] = (uint8_t)('0' + sample_next(seed) % 10);
+    for (uint32_t i = sample_next(seed) % 3; i > 0; i--) {
+        size_t within = sample_next(seed) % 2 ? l->block_length : 112;
+        damage(l->block + sample_next(seed) % within, seed);
+    }
+    if (sample_next(seed) % 16 == 0)
+        l->block_length = sample_next(seed) % (l->block_length + 1);
+}
+
+/* Puts a number in both ledgers. */
+static void put_in_ledger(struct lent *l, size_t at, size_t n, uint32_t number) {
+    for (size_t i = 0; i < n; i++)
+        l->ledger[at + i] = l->other[at + i] = (uint8_t)(number >> 8 * (n - 1 - i));
+}
+
+/* At times a byte of the ledger that is wrong; a field of a room at its edge or past it; a number of days at its edge, or that the length lent is not for. */
+static void damage_ledger(struct lent *l, uint64_t *seed) {
+    static const struct {
+        size_t at, length;
+        uint32_t number;
+    } edges[] = {{0, 1, 49}, {0, 1, 50}, {2, 4, 99999999}, {2, 4, 100000000}, {6, 2, 9999}, {6, 2, 10000}};
+    static const uint32_t days[] = {0, 450, 451, 65535};
+    size_t at = sample_next(seed) % l->length, chance = sample_next(seed) % 64;
+    l->lent = sample_next(seed) % 32 == 0 ? sample_next(seed) % (l->length + 1) : l->length;
+    if (chance < 4) {
+        damage(l->ledger + at, seed);
+        l->other[at] = l->ledger[at];
+    } else if (chance < 10) {
+        put_in_ledger(l, 16 + 114 * (at % l->days) + edges[chance - 4].at, edges[chance - 4].length, edges[chance - 4].number);
+    } else if (chance < 14) {
+        put_in_ledger(l, 14, 2, days[chance - 10]);
+        l->lent = chance == 10 ? 16 : l->length;
+    }
+}
+
+/* ---- the calls */
+
+static void compare_days(uint64_t *seed) {
+    uint32_t y = sample_next(seed) % 110, m = sample_next(seed) % 14, d = sample_next(seed) % 33, date = y * 10000 + m * 100 + d;
+    uint32_t days = sample_next(seed), day = days % 16 == 0 ? UINT32_MAX - days : sample_next(seed) % (LAST_DAY + 500);
+    same(DAY, cop6_day(date) != COP6_NO_DAY, cop6_day(date), plain_day(date));
+    same(DATE, cop6_date(day) != 0, cop6_date(day), plain_date(day));
+    same(LEDGER_LENGTH, 1, cop6_ledger_length(days), plain_ledger_length(days));
+}
+
+static void compare_open(struct lent *l, uint64_t *seed) {
+    uint8_t name[COP6_IDENTIFIER];
+    uint32_t chance = sample_next(seed) % 8, first = l->first, days = l->days;
+    size_t twelve = chance == 0 ? sample_next(seed) % 12 : COP6_IDENTIFIER;
+    memcpy(name, SAMPLE_METER, sizeof name);
+    if (chance == 1)
+        damage(name + sample_next(seed) % 12, seed);
+    if (chance == 2)
+        first = LAST_DAY - days + sample_next(seed) % 4;
+    if (chance == 3)
+        first = UINT32_MAX - sample_next(seed) % 8;
+    if (chance == 4)
+        days = sample_next(seed) % 2 ? 0 : 451 + sample_next(seed) % 2;
+    size_t length = chance == 5 ? sample_next(seed) % (l->length + 1) : l->length;
+    memset(l->ledger, CLEAR, sizeof l->ledger);
+    memset(l->other, CLEAR, sizeof l->other);
+    uint64_t r = cop6_open(l->ledger, length, name, twelve, first, days);
+    same_answer(OPEN, r, plain_open(l->other, length, name, twelve, first, days));
+    same_memory(OPEN, l->ledger, l->other, LEDGER);
+    kept(OPEN, COP6_ANSWER(r) != COP6_DONE, l->ledger, LEDGER);
+    cop6_open(l->ledger, l->length, (const uint8_t *)SAMPLE_METER, COP6_IDENTIFIER, l->first, l->days);
+    memcpy(l->other, l->ledger, l->length);
+}
+
+static void compare_block(const struct lent *l, uint64_t *seed) {
+    const uint8_t *b = l->block;
+    size_t n = l->block_length;
+    uint64_t read = cop6_read(b, n);
+    same_answer(READ, read, plain_read(b, n));
+
+    clear_output();
+    size_t room = some_room(COP6_ANSWER(read) != COP6_DONE ? 11 : COP6_LISTING_BYTES(COP6_CARRIED(read)), seed);
+    uint64_t text = cop6_listing(b, n, bytes[0], room);
+    same(LISTING, text != 0, text, plain_listing(b, n, bytes[1], room));
+    same_memory(LISTING, bytes[0], bytes[1], sizeof bytes[0]);
+    kept(LISTING, text == 0, bytes[0], sizeof bytes[0]);
+
+    room = some_room(COP6_HEADER, seed);
+    uint64_t r = cop6_header(b, n, numbers[0], room);
+    same_answer(HEADER, r, plain_header(b, n, numbers[1], room));
+    same_numbers(HEADER, r);
+}
+
+static void compare_filing(struct lent *l, uint64_t *seed) {
+    clear_output();
+    size_t room = some_room(COP6_DIFFERENCE, seed);
+    uint64_t r = cop6_differs(l->ledger, l->lent, l->block, l->block_length, numbers[0], room);
+    same_answer(DIFFERS, r, plain_differs(l->other, l->lent, l->block, l->block_length, numbers[1], room));
+    same_numbers(DIFFERS, r);
+    same_memory(DIFFERS, l->ledger, l->other, l->length);
+
+    uint8_t before[LEDGER];
+    memcpy(before, l->ledger, l->length);
+    uint64_t filed = cop6_file(l->ledger, l->lent, l->block, l->block_length);
+    same_answer(FILE_BLOCK, filed, plain_file(l->other, l->lent, l->block, l->block_length));
+    same_memory(FILE_BLOCK, l->ledger, l->other, l->length);
+    if (COP6_ANSWER(filed) != COP6_DONE)
+        same_memory(FILE_BLOCK, l->ledger, before, l->length);
+    if (COP6_ANSWER(r) != COP6_DONE)
+        return;
+    first_differences[COP6_CARRIED(r) == 0 ? NONE : part_of(numbers[0])]++;
+    if (COP6_CARRIED(r) != (COP6_ANSWER(filed) == COP6_DIFFERS)) {
+        puts("differs: does not tell what file refuses with 12");
+        differ = 1;
+    }
+}
+
+static void compare_questions(const struct lent *l, uint64_t *seed) {
+    uint32_t chance = sample_next(seed), day = chance % 16 == 0 ? UINT32_MAX - chance : l->first - 1 + chance % (l->days + 2);
+    size_t room = some_room(COP6_IDENTIFIER, seed);
+    clear_output();
+    uint64_t r = cop6_identifier(l->ledger, l->lent, bytes[0], room);
+    same_answer(IDENTIFIER, r, plain_identifier(l->other, l->lent, bytes[1], room));
+    same_memory(IDENTIFIER, bytes[0], bytes[1], sizeof bytes[0]);
+    kept(IDENTIFIER, COP6_ANSWER(r) != COP6_DONE, bytes[0], sizeof bytes[0]);
+    same_answer(WINDOW, cop6_window(l->ledger, l->lent), plain_window(l->other, l->lent));
+    same_answer(MISSING, cop6_missing(l->ledger, l->lent, day), plain_missing(l->other, l->lent, day));
+    same_answer(FLAGS, cop6_flags(l->ledger, l->lent, day), plain_flags(l->other, l->lent, day));
+
+    room = some_room(COP6_SUMMARY, seed);
+    r = cop6_summary(l->ledger, l->lent, day, numbers[0], room);
+    same_answer(SUMMARY, r, plain_summary(l->other, l->lent, day, numbers[1], room));
+    same_numbers(SUMMARY, r);
+    clear_output();
+    room = some_room(COP6_HALVES, seed);
+    r = cop6_halves(l->ledger, l->lent, day, numbers[0], room);
+    same_answer(HALVES, r, plain_halves(l->other, l->lent, day, numbers[1], room));
+    same_numbers(HALVES, r);
+    same_memory(HALVES, l->ledger, l->other, l->length);
+}
+
+/* ---- the whole */
+
+/* Prints what was seen; 1 where something was not. */
+static int unseen(void) {
+    int none = 0;
+    for (int call = 0; call < CALLS; call++) {
+        printf("%s:", calls[call].name);
+        for (size_t i = 0; i < calls[call].count; i++) {
+            unsigned long times = given[call][calls[call].answers[i]];
+            printf(" %u %lu times%s", calls[call].answers[i], times, i + 1 < calls[call].count ? "," : "\n");
+            none |= times == 0;
         }
     }
-    for (int i = 0; i < 16; i++)
-        if (given[i] != 0)
-            printf("answer %d: %lu times\n", i, given[i]);
-    return 0;
+    printf("first difference:");
+    for (int i = 0; i < DIFFERENCES; i++) {
+        printf(" %s %lu times%s", differences[i], first_differences[i], i + 1 < DIFFERENCES ? "," : "\n");
+        none |= first_differences[i] == 0;
+    }
+    if (none)
+        puts("an answer that can be given was not seen");
+    return none;
+}
+
+int main(void) {
+    uint64_t seed = 1;
+    for (int round = 0; round < ROUNDS && !differ; round++) {
+        static struct lent l;
+        l.days = 1 + sample_next(&seed) % MOST;
+        uint32_t where = sample_next(&seed) % 6;
+        l.first = where == 0 ? 0 : where == 1 ? RUNS_ROUND - l.days / 2 : where < 4 ? LAST_DAY + 1 - l.days : 8820;
+        l.length = (size_t)cop6_ledger_length(l.days);
+        uint32_t life = sample_next(&seed) % 2;
+        compare_days(&seed);
+        compare_open(&l, &seed);
+        for (int filing = 0; filing < FILINGS && !differ; filing++) {
+            make_block(&l, life, &seed);
+            damage_ledger(&l, &seed);
+            compare_block(&l, &seed);
+            compare_filing(&l, &seed);
+            compare_questions(&l, &seed);
+        }
+    }
+    return differ ? 1 : unseen();
 }

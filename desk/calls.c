@@ -1,172 +1,333 @@
-/* Calls the library as a C program does: every function's answers, what it carries, and the memory that it leaves. Exit status 0 where all is right. */
-#include "cop6.h"
+/* Calls the library as a C program does, with cases reckoned by hand: every function's answers, what it carries, and the memory that it leaves. Exit status 0
+ * where all is right. */
+#include "calls.h"
 #include "sample.h"
 
 #include <stdio.h>
-#include <stdlib.h>
 #include <string.h>
 
+uint8_t ledger[LEDGER], ledger_before[LEDGER], block[MOST_BLOCK];
+uint64_t numbers[NUMBERS];
+size_t block_length;
 static int wrong;
 
-#define IS(x, y)                                                                                                                                     \
-    do {                                                                                                                                             \
-        unsigned long long is = (x), should = (y);                                                                                                   \
-        if (is != should) {                                                                                                                          \
-            printf("line %d: %s is %llu, and should be %llu\n", __LINE__, #x, is, should);                                                           \
-            wrong = 1;                                                                                                                               \
-        }                                                                                                                                            \
-    } while (0)
-
-#define ANSWER(answer, carried) ((uint64_t)(answer) << 32 | (carried))
-
-/* A block of one day, 240229, read at the time given: start 00471100, values 1150, 1230 and then 1230. */
-static size_t one_day(uint8_t *b, const char *time) {
-    memset(b, '0', COP6_BLOCK_BYTES(1));
-    memcpy(b, "\0\0\1\x47\1" "ABCX24000017", 17);
-    memcpy(b + 17, time, 12);
-    b[111] = '1';
-    memcpy(b + 112, "24022900471100\0", 15);
-    for (int j = 0; j < COP6_HALVES; j++)
-        memcpy(b + 127 + 4 * j, j == 0 ? "1150" : "1230", 4);
-    memset(b + 319, 0, 12);
-    return COP6_BLOCK_BYTES(1);
+void is(const char *file, int line, const char *what, unsigned long long number, unsigned long long should) {
+    if (number != should) {
+        printf("%s, line %d: %s is %llu, and should be %llu\n", file, line, what, number, should);
+        wrong = 1;
+    }
 }
 
-/* The shortest block and the longest, 450 days, read and filed whole. */
-static void longest(uint32_t day) {
-    static uint8_t block[COP6_BLOCK_BYTES(450)], ledger[16 + 114 * 450];
-    IS(sample_block(block, 0, day, 2, 1), 112);
-    IS(memcmp(block, "\0\0\0\x6c\1", 5), 0);
-    IS(cop6_read(block, 112), ANSWER(COP6_DONE, 0));
-    IS(sample_block(block, 450, day, 2, 1), 98662);
-    IS(memcmp(block, "\0\1\x81\x62\1", 5), 0);
-    IS(cop6_read(block, sizeof block), ANSWER(COP6_DONE, 450));
-    IS(cop6_open(ledger, sizeof ledger, (const uint8_t *)SAMPLE_METER, 12, day - 449, 450), ANSWER(COP6_DONE, 0));
-    IS(cop6_file(ledger, sizeof ledger, block, sizeof block), ANSWER(COP6_DONE, 449 * 48 + 2));
-    IS(cop6_file(ledger, sizeof ledger, block, sizeof block), ANSWER(COP6_DONE, 0));
+int clear(const void *memory, size_t length) {
+    const uint8_t *at = memory;
+    return at[0] == CLEAR && memcmp(at, at + 1, length - 1) == 0;
 }
 
-int main(void) {
-    uint8_t block[331], out[64], as_before[64], ledger[358], ledger_before[358];
-    uint64_t x[50];
-    size_t n = one_day(block, "240229011000");
-    uint32_t day = cop6_day(240229);
+size_t header_of(int count, const char *time) {
+    int behind = 108 + 219 * count;
+    memset(block, '0', 112);
+    memcpy(block, "\0\0\0\0\1", 5);
+    block[2] = (uint8_t)(behind / 256);
+    block[3] = (uint8_t)(behind % 256);
+    memcpy(block + 5, METER, COP6_IDENTIFIER);
+    memcpy(block + 17, time, 12);
+    block[111] = (uint8_t)('0' + count);
+    return COP6_BLOCK_BYTES(count);
+}
 
-    /* days */
-    IS(day, 8825);
-    IS(cop6_date(day), 240229);
+void record_of(size_t at, const char *date_and_start, const char *value, const char *others) {
+    memcpy(block + at, date_and_start, 14);
+    block[at + 14] = 0;
+    for (size_t j = 0; j < COP6_HALVES; j++)
+        memcpy(block + at + 15 + 4 * j, j == 0 ? value : others, 4);
+    memset(block + at + 207, 0, 12);
+}
+
+void one_day(const char *time) {
+    block_length = header_of(1, time);
+    record_of(112, "24022900471100", "1150", "1230");
+}
+
+void two_days(void) {
+    block_length = header_of(2, "240301001000");
+    record_of(112, "24030100471230", "1230", "1230");
+    record_of(331, "24022900471100", "1150", "1230");
+    block[331 + 14] = COP6_FLAG_POWER | COP6_FLAG_RESET;
+}
+
+void open_ledger(void) { IS(cop6_open(ledger, sizeof ledger, METER, COP6_IDENTIFIER, DAY - 1, DAYS), ANSWER(COP6_DONE, 0)); }
+
+void file_one_day(void) {
+    open_ledger();
+    one_day("240229011000");
+    IS(cop6_file(ledger, sizeof ledger, block, block_length), ANSWER(COP6_DONE, 2));
+    memcpy(ledger_before, ledger, sizeof ledger);
+}
+
+/* ---- days and blocks */
+
+static void days(void) {
+    IS(cop6_day(240229), DAY);
+    IS(cop6_date(DAY), 240229);
     IS(cop6_day(230229), COP6_NO_DAY);
     IS(cop6_day(101), 0);
     IS(cop6_date(0), 101);
     IS(cop6_day(991231), 36524);
     IS(cop6_date(36525), 0);
     IS(cop6_day(1240229), COP6_NO_DAY);
+}
 
-    /* blocks */
-    IS(cop6_read(block, n), ANSWER(COP6_DONE, 1));
+static void reading(void) {
+    one_day("240229011000");
+    IS(cop6_read(block, block_length), ANSWER(COP6_DONE, 1));
     IS(cop6_read(NULL, 0), ANSWER(COP6_NO_BLOCK, 0));
-    IS(cop6_read(block, n - 1), ANSWER(COP6_NO_BLOCK, 0));
+    IS(cop6_read(block, block_length - 1), ANSWER(COP6_NO_BLOCK, 0));
     block[130] = ' ';
-    IS(cop6_read(block, n), ANSWER(COP6_FIELD, 127));
-    block[130] = '1';
-    IS(cop6_read(block, n), ANSWER(COP6_DONE, 1));
+    IS(cop6_read(block, block_length), ANSWER(COP6_FIELD, 127));
+    block[130] = '0';
+    IS(cop6_read(block, block_length), ANSWER(COP6_DONE, 1));
     block[135] = '9';
-    IS(cop6_read(block, n), ANSWER(COP6_INCONSISTENT, 0));
-    n = one_day(block, "240229011000");
+    IS(cop6_read(block, block_length), ANSWER(COP6_INCONSISTENT, 0));
+    two_days();
+    IS(cop6_read(block, block_length), ANSWER(COP6_DONE, 2));
+}
 
-    /* the listing: whole, or nothing of it */
-    memset(out, '!', sizeof out);
-    memcpy(as_before, out, sizeof out);
-    IS(cop6_listing(block, n, out, 61), 0);
-    IS(memcmp(out, as_before, sizeof out), 0);
-    IS(cop6_listing(block, n, NULL, 0), 0);
-    IS(cop6_listing(block, n, out, sizeof out), 62);
+/* The listing: whole, or nothing of it. */
+static void listing(void) {
+    uint8_t out[64];
+    one_day("240229011000");
+    memset(out, CLEAR, sizeof out);
+    IS(cop6_listing(block, block_length, out, 61), 0);
+    IS(clear(out, sizeof out), 1);
+    IS(cop6_listing(block, block_length, NULL, 0), 0);
+    IS(cop6_listing(block, block_length, out, sizeof out), 62);
     IS(COP6_LISTING_BYTES(1), 62);
-    IS(memcmp(out, "ABCX24000017 240229011000 001\n240229 02 00471100 000130 00 00\n!!", 64), 0);
+    IS(memcmp(out, "ABCX24000017 240229011000 001\n240229 02 00471100 000130 00 00\n\xee\xee", 64), 0);
     IS(cop6_listing(NULL, 0, out, sizeof out), 10);
     IS(memcmp(out, "REFUSED 8\n", 10), 0);
+}
 
-    /* opening */
-    IS(cop6_ledger_length(3), sizeof ledger);
+static void header_refused(void) {
+    memset(numbers, CLEAR, sizeof numbers);
+    one_day("240229011000");
+    IS(cop6_header(NULL, 0, numbers, 0), ANSWER(COP6_NO_BLOCK, 0));
+    IS(cop6_header(block, block_length - 1, numbers, NUMBERS), ANSWER(COP6_NO_BLOCK, 0));
+    block[34] = 'x';
+    IS(cop6_header(block, block_length, numbers, NUMBERS), ANSWER(COP6_FIELD, 29));
+    IS(cop6_header(block, block_length, numbers, 27), ANSWER(COP6_FIELD, 29));
+    one_day("240229011000");
+    block[60] = '1';
+    IS(cop6_header(block, block_length, numbers, NUMBERS), ANSWER(COP6_INCONSISTENT, 0));
+    one_day("240229011000");
+    IS(cop6_header(block, block_length, numbers, 27), ANSWER(COP6_SHORT, 28));
+    IS(cop6_header(block, block_length, NULL, 0), ANSWER(COP6_SHORT, 28));
+    IS(clear(numbers, sizeof numbers), 1);
+}
+
+static void header(void) {
+    memset(numbers, CLEAR, sizeof numbers);
+    one_day("240229011000");
+    memcpy(block + 29, "004711" "000160" "999999" "000300" "240201" "07", 32);
+    memcpy(block + 61, "000001" "000020" "000300" "004000" "050000" "600000" "000000" "000008", 48);
+    IS(cop6_header(block, block_length, numbers, NUMBERS), ANSWER(COP6_DONE, 1));
+    for (int i = 0; i < COP6_IDENTIFIER; i++)
+        IS(numbers[COP6_HEAD_IDENTIFIER + i], METER[i]);
+    IS(numbers[COP6_HEAD_TIME], 762484200);
+    IS(numbers[COP6_HEAD_KWH], 4711);
+    IS(numbers[COP6_HEAD_CURRENT], 160);
+    IS(numbers[COP6_HEAD_PREVIOUS], 999999);
+    IS(numbers[COP6_HEAD_CUMULATIVE], 300);
+    IS(numbers[COP6_HEAD_RESET], 8797 + 1);
+    IS(numbers[COP6_HEAD_RESETS], 7);
+    static const uint64_t rates[COP6_RATES] = {1, 20, 300, 4000, 50000, 600000, 0, 8};
+    IS(memcmp(numbers + COP6_HEAD_RATES, rates, sizeof rates), 0);
+    IS(numbers[COP6_HEAD_DAYS], 1);
+    IS(COP6_HEADER, 28);
+    IS(clear(numbers + COP6_HEADER, sizeof numbers - COP6_HEADER * sizeof *numbers), 1);
+    block_length = header_of(0, "000101000000");
+    memcpy(block + 53, "000101", 6);
+    IS(cop6_header(block, block_length, numbers, 28), ANSWER(COP6_DONE, 0));
+    IS(numbers[COP6_HEAD_TIME], 0);
+    IS(numbers[COP6_HEAD_RESET], 1);
+    memcpy(block + 53, "000000", 6);
+    IS(cop6_header(block, block_length, numbers, 28), ANSWER(COP6_DONE, 0));
+    IS(numbers[COP6_HEAD_RESET], 0);
+    IS(numbers[COP6_HEAD_DAYS], 0);
+}
+
+/* ---- the ledger */
+
+static void opening(void) {
+    IS(cop6_ledger_length(DAYS), sizeof ledger);
     IS(cop6_ledger_length(COP6_MOST_DAYS), 51316);
-    memset(ledger, 0xee, sizeof ledger);
-    memcpy(ledger_before, ledger, sizeof ledger);
-    IS(cop6_open(ledger, sizeof ledger, (const uint8_t *)"ABCX2400001", 11, day - 1, 3), ANSWER(COP6_RANGE, 0));
-    IS(cop6_open(ledger, sizeof ledger, (const uint8_t *)"ABCX24000017", 12, COP6_NO_DAY, 3), ANSWER(COP6_RANGE, 0));
-    IS(cop6_open(ledger, sizeof ledger, (const uint8_t *)"ABCX24000017", 12, day - 1, 0), ANSWER(COP6_RANGE, 0));
-    IS(cop6_open(ledger, sizeof ledger, (const uint8_t *)"ABCX24000017", 12, day - 1, 4), ANSWER(COP6_LENGTH, 0));
-    IS(memcmp(ledger, ledger_before, sizeof ledger), 0);
+    memset(ledger, CLEAR, sizeof ledger);
+    IS(cop6_open(ledger, sizeof ledger, METER, 11, DAY - 1, DAYS), ANSWER(COP6_RANGE, 0));
+    IS(cop6_open(ledger, sizeof ledger, METER, COP6_IDENTIFIER, COP6_NO_DAY, DAYS), ANSWER(COP6_RANGE, 0));
+    IS(cop6_open(ledger, sizeof ledger, METER, COP6_IDENTIFIER, 36523, DAYS), ANSWER(COP6_RANGE, 0));
+    IS(cop6_open(ledger, sizeof ledger, METER, COP6_IDENTIFIER, DAY - 1, 0), ANSWER(COP6_RANGE, 0));
+    IS(cop6_open(ledger, sizeof ledger, METER, COP6_IDENTIFIER, DAY - 1, DAYS + 1), ANSWER(COP6_LENGTH, 0));
+    IS(clear(ledger, sizeof ledger), 1);
     IS(cop6_window(ledger, sizeof ledger), ANSWER(COP6_DAMAGED, 0));
-    IS(cop6_open(ledger, sizeof ledger, (const uint8_t *)"ABCX24000017", 12, day - 1, 3), ANSWER(COP6_DONE, 0));
-    IS(cop6_window(ledger, sizeof ledger), ANSWER(COP6_DONE, (uint64_t)(day - 1) << 16 | 3));
-    IS(COP6_FIRST(cop6_window(ledger, sizeof ledger)), day - 1);
-    IS(COP6_COUNT(cop6_window(ledger, sizeof ledger)), 3);
+    open_ledger();
+    IS(cop6_window(ledger, sizeof ledger), ANSWER(COP6_DONE, (uint64_t)(DAY - 1) << 16 | DAYS));
+    IS(COP6_FIRST(cop6_window(ledger, sizeof ledger)), DAY - 1);
+    IS(COP6_COUNT(cop6_window(ledger, sizeof ledger)), DAYS);
     IS(cop6_window(ledger, sizeof ledger - 1), ANSWER(COP6_LENGTH, 0));
     IS(cop6_window(NULL, 0), ANSWER(COP6_LENGTH, 0));
+}
 
-    /* filing */
+static void identifier(void) {
+    uint8_t out[COP6_IDENTIFIER + 2];
+    memset(out, CLEAR, sizeof out);
+    open_ledger();
+    IS(cop6_identifier(NULL, 0, out, 0), ANSWER(COP6_LENGTH, 0));
+    IS(cop6_identifier(ledger, sizeof ledger - 1, out, sizeof out), ANSWER(COP6_LENGTH, 0));
+    IS(cop6_identifier(ledger, sizeof ledger, out, 11), ANSWER(COP6_SHORT, 12));
+    IS(cop6_identifier(ledger, sizeof ledger, NULL, 0), ANSWER(COP6_SHORT, 12));
+    ledger[LEDGER - 1] = 1;
+    IS(cop6_identifier(ledger, sizeof ledger, out, 11), ANSWER(COP6_DAMAGED, 0));
+    IS(clear(out, sizeof out), 1);
+    open_ledger();
+    IS(cop6_identifier(ledger, sizeof ledger, out, sizeof out), ANSWER(COP6_DONE, 0));
+    IS(memcmp(out, "ABCX24000017\xee\xee", sizeof out), 0);
+}
+
+static void filing(void) {
+    open_ledger();
     memcpy(ledger_before, ledger, sizeof ledger);
-    IS(cop6_file(ledger, sizeof ledger - 1, block, n), ANSWER(COP6_LENGTH, 0));
+    one_day("240229011000");
+    IS(cop6_file(ledger, sizeof ledger - 1, block, block_length), ANSWER(COP6_LENGTH, 0));
     IS(cop6_file(ledger, sizeof ledger, block, 111), ANSWER(COP6_NO_BLOCK, 0));
     block[16] = '8';
-    IS(cop6_file(ledger, sizeof ledger, block, n), ANSWER(COP6_OTHER_METER, 0));
+    IS(cop6_file(ledger, sizeof ledger, block, block_length), ANSWER(COP6_OTHER_METER, 0));
     block[16] = 'a';
-    IS(cop6_file(ledger, sizeof ledger, block, n), ANSWER(COP6_FIELD, 5));
-    n = one_day(block, "240229011000");
+    IS(cop6_file(ledger, sizeof ledger, block, block_length), ANSWER(COP6_FIELD, 5));
     IS(memcmp(ledger, ledger_before, sizeof ledger), 0);
-    IS(cop6_file(ledger, sizeof ledger, block, n), ANSWER(COP6_DONE, 2));
-    IS(cop6_file(ledger, sizeof ledger, block, n), ANSWER(COP6_DONE, 0));
-    memcpy(ledger_before, ledger, sizeof ledger);
+    file_one_day();
+    IS(cop6_file(ledger, sizeof ledger, block, block_length), ANSWER(COP6_DONE, 0));
     memcpy(block + 118, "00471101", 8);
-    IS(cop6_file(ledger, sizeof ledger, block, n), ANSWER(COP6_DIFFERS, 0));
+    IS(cop6_file(ledger, sizeof ledger, block, block_length), ANSWER(COP6_DIFFERS, 0));
     IS(memcmp(ledger, ledger_before, sizeof ledger), 0);
+    two_days();
+    IS(cop6_file(ledger, sizeof ledger, block, block_length), ANSWER(COP6_DONE, 46));
+}
 
-    /* what is missing */
-    IS(cop6_missing(ledger, sizeof ledger, day), ANSWER(COP6_DONE, 2 << 16 | 46));
-    IS(cop6_missing(ledger, sizeof ledger, day + 1), ANSWER(COP6_DONE, 48));
-    IS(cop6_missing(ledger, sizeof ledger, day + 2), ANSWER(COP6_RANGE, 0));
-    IS(cop6_missing(ledger, 15, day), ANSWER(COP6_LENGTH, 0));
+static void missing(void) {
+    file_one_day();
+    IS(cop6_missing(ledger, sizeof ledger, DAY), ANSWER(COP6_DONE, 2 << 16 | 46));
+    IS(cop6_missing(ledger, sizeof ledger, DAY + 1), ANSWER(COP6_DONE, 48));
+    IS(cop6_missing(ledger, sizeof ledger, DAY + 2), ANSWER(COP6_RANGE, 0));
+    IS(cop6_missing(ledger, 15, DAY), ANSWER(COP6_LENGTH, 0));
+    two_days();
+    cop6_file(ledger, sizeof ledger, block, block_length);
+    IS(cop6_missing(ledger, sizeof ledger, DAY), ANSWER(COP6_DONE, 48 << 16));
+}
 
-    /* the summary: six numbers, or none of them */
-    memset(x, 0xff, sizeof x);
-    IS(cop6_summary(ledger, sizeof ledger, day, x, 5), ANSWER(COP6_SHORT, 6));
-    IS(cop6_summary(ledger, sizeof ledger, day, NULL, 0), ANSWER(COP6_SHORT, 6));
-    IS(cop6_summary(ledger, sizeof ledger, day - 2, x, 5), ANSWER(COP6_RANGE, 0));
-    IS(x[0], UINT64_MAX);
-    IS(cop6_summary(ledger, sizeof ledger, day, x, 50), ANSWER(COP6_DONE, 0));
-    IS(x[COP6_HELD], 1);
-    IS(x[COP6_K], 2);
-    IS(x[COP6_START], 471100);
-    IS(x[COP6_ADVANCE], 130);
-    IS(x[COP6_REVERSE], 0);
-    IS(x[COP6_LEVEL2], 0);
-    IS(x[COP6_SUMMARY], UINT64_MAX);
-    IS(cop6_summary(ledger, sizeof ledger, day + 1, x, 6), ANSWER(COP6_DONE, 0));
+/* The summary: six numbers, or none of them. */
+static void summary(void) {
+    file_one_day();
+    memset(numbers, CLEAR, sizeof numbers);
+    IS(cop6_summary(ledger, sizeof ledger, DAY, numbers, 5), ANSWER(COP6_SHORT, 6));
+    IS(cop6_summary(ledger, sizeof ledger, DAY, NULL, 0), ANSWER(COP6_SHORT, 6));
+    IS(cop6_summary(ledger, sizeof ledger, DAY - 2, numbers, 5), ANSWER(COP6_RANGE, 0));
+    IS(clear(numbers, sizeof numbers), 1);
+    IS(cop6_summary(ledger, sizeof ledger, DAY, numbers, NUMBERS), ANSWER(COP6_DONE, 0));
+    IS(numbers[COP6_HELD], 1);
+    IS(numbers[COP6_K], 2);
+    IS(numbers[COP6_START], 471100);
+    IS(numbers[COP6_ADVANCE], 130);
+    IS(numbers[COP6_REVERSE], 0);
+    IS(numbers[COP6_LEVEL2], 0);
+    IS(clear(numbers + COP6_SUMMARY, sizeof numbers - COP6_SUMMARY * sizeof *numbers), 1);
+    IS(cop6_summary(ledger, sizeof ledger, DAY + 1, numbers, 6), ANSWER(COP6_DONE, 0));
     for (int i = 0; i < COP6_SUMMARY; i++)
-        IS(x[i], 0);
+        IS(numbers[i], 0);
+}
 
-    /* the half-hours: all 48, or none; with marks, in a ledger changed by hand */
-    memset(x, 0xff, sizeof x);
-    IS(cop6_halves(ledger, sizeof ledger, day, x, 47), ANSWER(COP6_SHORT, 48));
-    IS(cop6_halves(ledger, sizeof ledger, day + 2, x, 48), ANSWER(COP6_RANGE, 0));
-    IS(x[0], UINT64_MAX);
-    ledger[16 + 114 + 102] = 0x80;
-    ledger[16 + 114 + 108] = 0xc0;
-    IS(cop6_halves(ledger, sizeof ledger, day, x, 50), ANSWER(COP6_DONE, 2));
-    IS(COP6_HALF_VALUE(x[0]), 1150);
-    IS(COP6_HALF_ADVANCE(x[0]), 50);
-    IS(COP6_HALF_REVERSE(x[0]), 1);
-    IS(COP6_HALF_LEVEL2(x[0]), 1);
-    IS(COP6_HALF_VALUE(x[1]), 1230);
-    IS(COP6_HALF_ADVANCE(x[1]), 80);
-    IS(COP6_HALF_REVERSE(x[1]), 0);
-    IS(COP6_HALF_LEVEL2(x[1]), 1);
+/* The flags of a day are held where all of it is. */
+static void flags(void) {
+    open_ledger();
+    one_day("240229011000");
+    block[126] = COP6_FLAG_POWER;
+    IS(cop6_file(ledger, sizeof ledger, block, block_length), ANSWER(COP6_DONE, 2));
+    IS(cop6_flags(ledger, sizeof ledger, DAY), ANSWER(COP6_DONE, 0));
+    two_days();
+    IS(cop6_file(ledger, sizeof ledger, block, block_length), ANSWER(COP6_DONE, 46));
+    IS(cop6_flags(ledger, sizeof ledger, DAY), ANSWER(COP6_DONE, 0xa0));
+    IS(cop6_flags(ledger, sizeof ledger, DAY + 1), ANSWER(COP6_DONE, 0));
+    IS(cop6_flags(ledger, sizeof ledger, DAY - 1), ANSWER(COP6_DONE, 0));
+    IS(cop6_flags(ledger, sizeof ledger, DAY - 2), ANSWER(COP6_RANGE, 0));
+    IS(cop6_flags(ledger, sizeof ledger, DAY + 2), ANSWER(COP6_RANGE, 0));
+    IS(cop6_flags(ledger, sizeof ledger - 114, DAY), ANSWER(COP6_LENGTH, 0));
+    IS(cop6_flags(NULL, 0, DAY), ANSWER(COP6_LENGTH, 0));
+    ledger[ROOM + 1] = 0xa1;
+    IS(cop6_flags(ledger, sizeof ledger, DAY + 2), ANSWER(COP6_DAMAGED, 0));
+}
+
+/* The half-hours: all 48, or none; with marks, in a ledger changed by hand. */
+static void halves(void) {
+    file_one_day();
+    memset(numbers, CLEAR, sizeof numbers);
+    IS(cop6_halves(ledger, sizeof ledger, DAY, numbers, 47), ANSWER(COP6_SHORT, 48));
+    IS(cop6_halves(ledger, sizeof ledger, DAY + 2, numbers, 48), ANSWER(COP6_RANGE, 0));
+    IS(clear(numbers, sizeof numbers), 1);
+    ledger[ROOM + 102] = 0x80;
+    ledger[ROOM + 108] = 0xc0;
+    IS(cop6_halves(ledger, sizeof ledger, DAY, numbers, NUMBERS), ANSWER(COP6_DONE, 2));
+    IS(COP6_HALF_VALUE(numbers[0]), 1150);
+    IS(COP6_HALF_ADVANCE(numbers[0]), 50);
+    IS(COP6_HALF_REVERSE(numbers[0]), 1);
+    IS(COP6_HALF_LEVEL2(numbers[0]), 1);
+    IS(COP6_HALF_VALUE(numbers[1]), 1230);
+    IS(COP6_HALF_ADVANCE(numbers[1]), 80);
+    IS(COP6_HALF_REVERSE(numbers[1]), 0);
+    IS(COP6_HALF_LEVEL2(numbers[1]), 1);
     for (int j = 2; j < COP6_HALVES; j++)
-        IS(x[j], 0);
-    IS(x[48], UINT64_MAX);
-    ledger[16 + 114 + 102] = 0x20;
-    IS(cop6_halves(ledger, sizeof ledger, day, x, 50), ANSWER(COP6_DAMAGED, 0));
+        IS(numbers[j], 0);
+    IS(clear(numbers + COP6_HALVES, 2 * sizeof *numbers), 1);
+    ledger[ROOM + 102] = 0x20;
+    IS(cop6_halves(ledger, sizeof ledger, DAY, numbers, NUMBERS), ANSWER(COP6_DAMAGED, 0));
+}
 
-    longest(day);
+/* ---- the longest */
+
+/* The shortest block and the longest, 450 days, read and filed whole; one of a day more is no block. */
+static void longest(void) {
+    static uint8_t too_long[COP6_BLOCK_BYTES(COP6_MOST_DAYS + 1)], long_block[COP6_BLOCK_BYTES(COP6_MOST_DAYS)], long_ledger[16 + 114 * COP6_MOST_DAYS];
+    IS(sample_block(long_block, 0, DAY, 2, 1), 112);
+    IS(memcmp(long_block, "\0\0\0\x6c\1", 5), 0);
+    IS(cop6_read(long_block, 112), ANSWER(COP6_DONE, 0));
+    IS(sample_block(long_block, 450, DAY, 2, 1), 98662);
+    IS(memcmp(long_block, "\0\1\x81\x62\1", 5), 0);
+    IS(cop6_read(long_block, sizeof long_block), ANSWER(COP6_DONE, 450));
+    memcpy(too_long, long_block, sizeof long_block);
+    memcpy(too_long, "\0\1\x82\x3d", 4);
+    memcpy(too_long + sizeof long_block, long_block + sizeof long_block - 219, 219);
+    IS(cop6_read(too_long, sizeof too_long), ANSWER(COP6_NO_BLOCK, 0));
+    IS(cop6_header(long_block, sizeof long_block, numbers, 28), ANSWER(COP6_DONE, 450));
+    IS(numbers[COP6_HEAD_DAYS], 450);
+    IS(cop6_open(long_ledger, sizeof long_ledger, METER, COP6_IDENTIFIER, DAY - 449, 450), ANSWER(COP6_DONE, 0));
+    IS(cop6_file(long_ledger, sizeof long_ledger, long_block, sizeof long_block), ANSWER(COP6_DONE, 449 * 48 + 2));
+    IS(cop6_file(long_ledger, sizeof long_ledger, long_block, sizeof long_block), ANSWER(COP6_DONE, 0));
+    IS(cop6_differs(long_ledger, sizeof long_ledger, long_block, sizeof long_block, numbers, 4), ANSWER(COP6_DONE, 0));
+}
+
+int main(void) {
+    days();
+    reading();
+    listing();
+    header_refused();
+    header();
+    opening();
+    identifier();
+    filing();
+    missing();
+    summary();
+    flags();
+    halves();
+    differs();
+    differs_in_days();
+    differs_refused();
+    longest();
     return wrong;
 }

@@ -1,14 +1,28 @@
-/* The same calls as the library's reader, filing and summary, and the same loops of a recorder's events and reads as crates/timing has, in plain C: what
- * the benchmark measures the library against. */
+/* Every call of the library in plain C, written from the documents alone: the comparison holds the two against each other, stand_in.c stands in for the
+ * archive by it. The benchmark measures the library against its reader, filing and summary, and against the same loops of a recorder's events and reads as
+ * crates/timing has. */
 #ifndef PLAIN_H
 #define PLAIN_H
 
 #include <stddef.h>
 #include <stdint.h>
 
+/* As cop6.h says of the call of the same name. plain.c has the three that are timed, plain_desk.c the others. */
 uint64_t plain_read(const uint8_t *block, size_t length);
 uint64_t plain_file(uint8_t *ledger, size_t length, const uint8_t *block, size_t block_length);
 uint64_t plain_summary(const uint8_t *ledger, size_t length, uint32_t day, uint64_t *out, size_t room);
+uint64_t plain_listing(const uint8_t *block, size_t length, uint8_t *out, size_t room);
+uint64_t plain_header(const uint8_t *block, size_t length, uint64_t *out, size_t room);
+uint32_t plain_day(uint32_t yymmdd);
+uint32_t plain_date(uint32_t day);
+uint64_t plain_ledger_length(uint32_t days);
+uint64_t plain_open(uint8_t *ledger, size_t length, const uint8_t *name, size_t twelve, uint32_t first, uint32_t days);
+uint64_t plain_differs(const uint8_t *ledger, size_t length, const uint8_t *block, size_t block_length, uint64_t *out, size_t room);
+uint64_t plain_identifier(const uint8_t *ledger, size_t length, uint8_t *out, size_t room);
+uint64_t plain_window(const uint8_t *ledger, size_t length);
+uint64_t plain_missing(const uint8_t *ledger, size_t length, uint32_t day);
+uint64_t plain_flags(const uint8_t *ledger, size_t length, uint32_t day);
+uint64_t plain_halves(const uint8_t *ledger, size_t length, uint32_t day, uint64_t *out, size_t room);
 
 /* Set-up in a store of class d, at 2000-01-01 00:00:00 with 1 Wh a pulse and all at zero; then n Counts of one pulse each, and the total is returned; n
  * Clocks of so many seconds each, and the time; a Clock of 449 days and 01:10 and n reads of 450 days, and the bytes of all of them. */
