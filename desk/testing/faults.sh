@@ -1,0 +1,112 @@
+# Sourced by desk/test: calls of the system that fail, and signals at each of them, by a library that is preloaded into the desk. A file that can't be
+# written leaves the ledger as it was; a folder that can't be synced is said, and the half-hours are filed.
+
+with_fault() { # FAULT WORD..
+    local fault=$1
+    shift
+    env DESK_FAULT="$fault" LD_PRELOAD="$room/faults.so" "${desk[@]}" "$@"
+}
+
+# A filing with a fault, held to desk/expected/fault_NAME; then the ledger is SERIAL, and alone.
+fault_filing() { # NAME SERIAL FAULT
+    local status=0
+    cp "$room/serial_0" m
+    with_fault "$3" file m ../blocks/day_1 >"$room/out" 2>"$room/err" || status=$?
+    compare "fault_$1" $status
+    holds "fault_$1: the ledger" cmp m "$room/$2"
+    holds "fault_$1: nothing is left" clean m
+}
+
+fault_opening() { # NAME FAULT WHAT_IS_THERE
+    local status=0
+    rm -f m
+    with_fault "$2" open m $meter 240401 4 >"$room/out" 2>"$room/err" || status=$?
+    compare "fault_open_$1" $status
+    holds "fault_open_$1: nothing is left" [ "$(ls)" = "$3" ]
+}
+
+failing() {
+    fault_filing write serial_0 'write fails 28'
+    fault_filing fsync serial_0 'fsync fails 5'
+    fault_filing fchmod serial_0 'fchmod fails 1'
+    fault_filing rename serial_0 'rename fails 13'
+    fault_filing open_new serial_0 'open-new fails 13'
+    fault_filing lock serial_0 'flock fails 37'
+    fault_filing folder_sync serial_1 'fsync-folder fails 5'
+    fault_filing folder_open serial_1 'open-folder fails 13'
+    fault_filing folder_no_sync serial_1 'fsync-folder fails 22'
+    fault_opening link 'link fails 1' ''
+    fault_opening exists 'link fails 17' ''
+    fault_opening write 'write fails 28' ''
+    fault_opening folder_open 'open-folder fails 13' ''
+    fault_opening folder_sync 'fsync-folder fails 5' m
+    holds 'a ledger that is opened and not made sure is whole' cmp m "$room/serial_0"
+    if [ "$(id -u)" = 0 ]; then
+        local status=0
+        cp "$room/serial_0" m
+        chown 1:2 m
+        with_fault 'fchown fails 1' file m ../blocks/day_1 >"$room/out" 2>"$room/err" || status=$?
+        compare fault_owner $status
+        holds 'fault_owner: the ledger' cmp m "$room/serial_0"
+        holds 'fault_owner: its owner' [ "$(stat -c %u:%g m) $(ls)" = '1:2 m' ]
+    else
+        skip 'a ledger of another owner: only root can make one'
+    fi
+}
+
+# A signal at a call: the desk ends by it, and leaves its new file where it is SIGKILL alone; the next desk goes on from there.
+struck_at() { # CALL HOW SIGNAL WORD..
+    local at="$1 $2 $3" status=0
+    { with_fault "$1 $2 $(kill -l "$3")" "${@:4}" >/dev/null || status=$?; } 2>/dev/null
+    [ $status = $((128 + $(kill -l "$3"))) ] || fail "$what: $4: $at: it ended with $status"
+    [ "$3" = KILL ] || [ ! -e m.new ] || fail "$what: $4: $at: its new file is left"
+    checks=$((checks + 1))
+}
+
+struck_filing() { # CALL HOW SIGNAL
+    cp "$room/serial_0" m
+    struck_at "$1" "$2" "$3" file m ../blocks/day_1
+    cmp -s m "$room/serial_0" || cmp -s m "$room/serial_1" || fail "$what: file: $1 $2 $3: the ledger is torn"
+    "${desk[@]}" file m ../blocks/day_1 >/dev/null && cmp -s m "$room/serial_1" && clean m || fail "$what: after $1 $2 $3: $(ls)"
+}
+
+struck_opening() { # CALL HOW SIGNAL
+    rm -f m
+    struck_at "$1" "$2" "$3" open m $meter 240401 4
+    [ -e m ] || "${desk[@]}" open m $meter 240401 4
+    "${desk[@]}" file m ../blocks/day_1 >/dev/null && cmp -s m "$room/serial_1" && clean m || fail "$what: open: after $1 $2 $3: $(ls)"
+}
+
+signals() {
+    local call how signal
+    for how in before after; do
+        for signal in KILL TERM INT; do
+            for call in open-new write fchmod fsync rename fsync-folder; do
+                struck_filing $call $how $signal
+            done
+            for call in open-new write fchmod fsync link unlink fsync-folder; do
+                struck_opening $call $how $signal
+            done
+        done
+        for signal in HUP QUIT PIPE ALRM USR1 USR2 XCPU XFSZ VTALRM PROF IO; do
+            struck_filing write $how $signal
+        done
+    done
+}
+
+faults() {
+    what='with faults'
+    rm -rf "$room/work" "$room"/serial_?
+    mkdir "$room/work"
+    desk/cc -shared -fPIC -o "$room/faults.so" desk/testing/faults.c -ldl
+    cd "$room/work"
+    if with_fault 'fsync-folder fails 5' open m $meter 240401 4 2>/dev/null; then
+        skip 'faults: a library is not preloaded into the desk here'
+    else
+        serial_ledgers
+        rm m
+        failing
+        signals
+    fi
+    cd "$here"
+}
