@@ -1,5 +1,5 @@
-/* What a ledger holds: summary, missing, show, values, and its page. The ledger and the days asked for are judged before the first line, so that all is written or
- * nothing: after that the library's calls are done. */
+/* What a ledger holds: summary, missing, show, values, and its page. The ledger and the days asked for are judged before the first line, so that all is
+ * written or nothing: after that the library's calls are done. */
 #include "commands.h"
 #include "cop6.h"
 #include "dates.h"

@@ -1,3 +1,4 @@
+# shellcheck shell=bash
 # Sourced by desk/test: makes blocks, in $blocks. `record` and `block` write the bytes of docs/BLOCK.md.
 
 hex() {
@@ -95,7 +96,8 @@ flat() { # TIME DATE..
 large_blocks() {
     three_days 80 | block $meter 240301121500 3 >"$blocks/three_days"
     three_days 60 | block $meter 240301121500 3 >"$blocks/differs_flags"
-    three_days 80 | block $meter 240301121500 3 "004758""001234""000905""123456""240201""07""000001000022000333004444055555666666077777008888" >"$blocks/registers"
+    local registers=00475800123400090512345624020107 rates=000001000022000333004444055555666666077777008888
+    three_days 80 | block $meter 240301121500 3 $registers$rates >"$blocks/registers"
     one_day 240229020500 00471100 00 $none $none 1101 1103 1103 1106 >"$blocks/small_advances"
     flat 240303001000 240303 240302 240301 240229 240228 >"$blocks/flat_five"
     flat 240302113000 240302 240301 >"$blocks/flat_two"
@@ -104,14 +106,14 @@ large_blocks() {
     flat 240302235959 240302 >"$blocks/flat_outside"
 }
 
-# Blocks of four days, each read in the morning and late, for desks that file them at once; and eight that follow each other, for desks that are killed.
+# Blocks of four days, each read in the morning and late, for desks that file them at once or one after the other.
 many_blocks() {
-    local day n=0
-    for day in 240401 240402 240403 240404; do
+    local day
+    for day in 1 2 3 4; do
         # shellcheck disable=SC2046
-        one_day ${day}113000 00001234 00 $none $none $(values 1234 3 0 23) >"$blocks/day_$((++n))"
+        one_day 24040${day}113000 00001234 00 $none $none $(values 1234 3 0 23) >"$blocks/day_$((2 * day - 1))"
         # shellcheck disable=SC2046
-        one_day ${day}235959 00001234 00 $none $none $(values 1234 3 0 47) >"$blocks/day_$((++n))"
+        one_day 24040${day}235959 00001234 00 $none $none $(values 1234 3 0 47) >"$blocks/day_$((2 * day))"
     done
 }
 

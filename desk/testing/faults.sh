@@ -1,10 +1,11 @@
+# shellcheck shell=bash
 # Sourced by desk/test: calls of the system that fail, and signals at each of them, by a library that is preloaded into the desk. A file that can't be
 # written leaves the ledger as it was; a folder that can't be synced is said, and the half-hours are filed.
 
 with_fault() { # FAULT WORD..
     local fault=$1
     shift
-    env DESK_FAULT="$fault" LD_PRELOAD="$room/faults.so" "${desk[@]}" "$@"
+    "${minding[@]}" DESK_FAULT="$fault" LD_PRELOAD="$room/faults.so" "${desk[@]}" "$@"
 }
 
 # A filing with a fault, held to desk/expected/fault_NAME; then the ledger is SERIAL, and alone.
@@ -63,22 +64,31 @@ struck_at() { # CALL HOW SIGNAL WORD..
     checks=$((checks + 1))
 }
 
+go_on() { # AFTER
+    "${desk[@]}" file m ../blocks/day_1 >/dev/null || fail "$what: $1: the next filing fails"
+    if ! cmp -s m "$room/serial_1" || ! clean m; then fail "$what: $1: $(ls)"; fi
+}
+
 struck_filing() { # CALL HOW SIGNAL
     cp "$room/serial_0" m
     struck_at "$1" "$2" "$3" file m ../blocks/day_1
     cmp -s m "$room/serial_0" || cmp -s m "$room/serial_1" || fail "$what: file: $1 $2 $3: the ledger is torn"
-    "${desk[@]}" file m ../blocks/day_1 >/dev/null && cmp -s m "$room/serial_1" && clean m || fail "$what: after $1 $2 $3: $(ls)"
+    go_on "file: after $1 $2 $3"
 }
 
 struck_opening() { # CALL HOW SIGNAL
     rm -f m
     struck_at "$1" "$2" "$3" open m $meter 240401 4
     [ -e m ] || "${desk[@]}" open m $meter 240401 4
-    "${desk[@]}" file m ../blocks/day_1 >/dev/null && cmp -s m "$room/serial_1" && clean m || fail "$what: open: after $1 $2 $3: $(ls)"
+    go_on "open: after $1 $2 $3"
 }
 
 signals() {
     local call how signal
+    if [ ${#minding[@]} = 1 ]; then
+        skip 'signals at each call, which may be ignored: env has no --default-signal here'
+        return
+    fi
     for how in before after; do
         for signal in KILL TERM INT; do
             for call in open-new write fchmod fsync rename fsync-folder; do

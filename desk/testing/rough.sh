@@ -1,3 +1,4 @@
+# shellcheck shell=bash
 # Sourced by desk/test: many desks at once on one ledger, and desks that are killed while they file. Nothing that was reported may be lost, the ledger is
 # whole at every moment, and at most LEDGER.new is left beside it.
 
@@ -30,7 +31,9 @@ at_once() { # ROUNDS
         wait "${pids[@]}" || true
         cmp -s m "$room/serial_8" || fail "$what: eight desks at once left another ledger than one after the other: round $round"
         for n in {1..8}; do
-            grep -q '^1 block filed' "$room/out_$n" && grep -q 'it is the ledger itself' "$room/err_$n" || fail "$what: at once: day_$n was not filed: round $round"
+            if ! grep -q '^1 block filed' "$room/out_$n" || ! grep -q 'it is the ledger itself' "$room/err_$n"; then
+                fail "$what: at once: day_$n was not filed, or the ledger: round $round"
+            fi
         done
         clean m || fail "$what: at once: something is left: $(ls): round $round"
         checks=$((checks + 1))
@@ -54,17 +57,21 @@ opens_at_once() { # ROUNDS
             fi
         done
         [ $opened = 1 ] || fail "$what: $opened of eight openings of one name were done: round $round"
-        cmp -s m "$room/serial_0" && clean m || fail "$what: openings at once left: $(ls): round $round"
+        if ! cmp -s m "$room/serial_0" || ! clean m; then fail "$what: openings at once left: $(ls): round $round"; fi
         checks=$((checks + 1))
     done
 }
+
+# A shell has what it starts in the background ignore SIGINT, and hands on what it ignores itself: this undoes it where env can.
+minding=(env)
+if env --default-signal true 2>/dev/null; then minding=(env --default-signal); fi
 
 # How long one filing takes, in microseconds, to spread the kills over it and a little past it.
 measure() {
     local n begun=${EPOCHREALTIME/[.,]/}
     cp "$room/serial_0" m
     for n in {1..8}; do
-        "${desk[@]}" file m "$blocks/day_$n" >/dev/null &
+        "${minding[@]}" "${desk[@]}" file m "$blocks/day_$n" >/dev/null &
         wait $!
     done
     long=$(((${EPOCHREALTIME/[.,]/} - begun) / 8 * 5 / 4))
@@ -76,7 +83,7 @@ strike() { # SIGNAL WORD..
     shift
     status=0
     : >"$room/out"
-    "${desk[@]}" "$@" >"$room/out" 2>/dev/null &
+    "${minding[@]}" "${desk[@]}" "$@" >"$room/out" 2>/dev/null &
     pid=$!
     nap $((RANDOM * long / 32768))
     kill "-$signal" $pid 2>/dev/null || true
@@ -87,7 +94,7 @@ strike() { # SIGNAL WORD..
 
 # Desks that file one block after the other, each struck: the ledger is the one before or the one after it, and after it where that was reported.
 kill_filing() { # SIGNAL ROUNDS
-    local round at=0
+    local round at=0 lost=0
     struck=0 left=0
     rm -f m.new
     cp "$room/serial_0" m
@@ -97,8 +104,10 @@ kill_filing() { # SIGNAL ROUNDS
             at=$(((at + 1) % 8))
             [ $at != 0 ] || cp "$room/serial_0" m
         elif ! cmp -s m "$room/serial_$at"; then
+            lost=$((lost + 1))
             fail "$what: a desk ended by $1 left a torn ledger: round $round"
         elif [ -s "$room/out" ]; then
+            lost=$((lost + 1))
             fail "$what: a desk ended by $1 lost what it reported: round $round"
         fi
         [ -z "$(ls | grep -vxF -e m -e m.new)" ] || fail "$what: a desk ended by $1 left: $(ls): round $round"
@@ -107,8 +116,8 @@ kill_filing() { # SIGNAL ROUNDS
     done
     "${desk[@]}" summary m >/dev/null || fail "$what: the ledger after $1 is refused"
     "${desk[@]}" file m "$blocks"/day_? >/dev/null
-    cmp -s m "$room/serial_8" && clean m || fail "$what: the desk after $1 did not take over what was left: $(ls)"
-    echo "desk: $what: $2 filings sent $1 at random moments: $struck ended by it, $left with a new file left; nothing lost"
+    if ! cmp -s m "$room/serial_8" || ! clean m; then fail "$what: the desk after $1 did not take over what was left: $(ls)"; fi
+    echo "desk: $what: $2 filings sent $1 at random moments: $struck ended by it, $left left a new file, $lost lost anything"
 }
 
 kill_opening() { # SIGNAL ROUNDS
@@ -120,12 +129,12 @@ kill_opening() { # SIGNAL ROUNDS
         [ ! -e m ] || cmp -s m "$room/serial_0" || fail "$what: an opening ended by $1 left a torn ledger: round $round"
         [ "$1" = KILL ] || [ ! -e m.new ] || fail "$what: an opening ended by $1 left its new file: round $round"
         [ -e m ] || "${desk[@]}" open m $meter 240401 4 || fail "$what: an opening ended by $1 hinders the next: round $round"
-        [ $((round % 8)) != 0 ] || "${desk[@]}" file m "$blocks/day_1" >/dev/null
-        [ $((round % 8)) != 0 ] || { cmp -s m "$room/serial_1" && clean m; } || fail "$what: an opening ended by $1 hinders filing: round $round"
+        "${desk[@]}" file m "$blocks/day_1" >/dev/null
+        if ! cmp -s m "$room/serial_1" || ! clean m; then fail "$what: an opening ended by $1 hinders filing: round $round"; fi
         checks=$((checks + 1))
     done
     rm -f m m.new
-    echo "desk: $what: $2 openings sent $1 at random moments: $struck ended by it, $left with a new file left"
+    echo "desk: $what: $2 openings sent $1 at random moments: $struck ended by it, $left left a new file"
 }
 
 # A block that comes slowly, by a pipe, has no other desk wait.
@@ -170,10 +179,7 @@ rough() { # WHAT ROUNDS
     measure
     kill_filing KILL "$2"
     kill_filing TERM "$(($2 / 2))"
-    # A shell has what it starts in the background ignore SIGINT, unless it minds its jobs.
-    set -m
-    kill_filing INT "$(($2 / 4))"
-    set +m
+    if [ ${#minding[@]} -gt 1 ]; then kill_filing INT "$(($2 / 4))"; else skip 'SIGINT: env has no --default-signal here'; fi
     kill_opening KILL "$(($2 / 4))"
     kill_opening TERM "$(($2 / 4))"
     cd "$here"

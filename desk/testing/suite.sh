@@ -1,3 +1,4 @@
+# shellcheck shell=bash
 # Sourced by desk/test: every command, message and exit status of one desk, whose words are in $desk, held against desk/expected/.
 
 # What the desk wrote, to $room/out and $room/err, and its exit status, held to desk/expected/NAME.
