@@ -153,7 +153,8 @@ static void show(const struct span *s) {
         show_day(s, day, largest);
     if (largest > 0)
         printf("█ %" PRIu32 " unit%s of 10 Wh, ", largest, plural(largest));
-    puts("_ none, ░ missing; R reverse, 2 Level 2, B both; P power lost, M meter changed, D demand reset");
+    puts("_ none, ░ missing");
+    puts("under a day R reverse, 2 Level 2, B both; behind it P power lost, M meter changed, D demand reset");
 }
 
 int show_command(char **args, int count) { return ask(args, count, show); }
