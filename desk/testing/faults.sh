@@ -9,9 +9,9 @@ with_fault() { # FAULT WORD..
 }
 
 # A filing with a fault, held to desk/expected/fault_NAME; then the ledger is SERIAL, and alone.
-fault_filing() { # NAME SERIAL FAULT
+fault_filing() { # NAME SERIAL FAULT [SERIAL-BEFORE]
     local status=0
-    cp "$room/serial_0" m
+    cp "$room/${4:-serial_0}" m
     with_fault "$3" file m ../blocks/day_1 >"$room/out" 2>"$room/err" || status=$?
     compare "fault_$1" $status
     holds "fault_$1: the ledger" cmp m "$room/$2"
@@ -34,6 +34,7 @@ failing() {
     fault_filing open_new serial_0 'open-new fails 13'
     fault_filing lock serial_0 'flock fails 37'
     fault_filing folder_sync serial_1 'fsync-folder fails 5'
+    fault_filing folder_again serial_1 'fsync-folder fails 5' serial_1
     fault_filing folder_open serial_1 'open-folder fails 13'
     fault_filing folder_no_sync serial_1 'fsync-folder fails 22'
     fault_opening link 'link fails 1' ''
@@ -104,11 +105,48 @@ signals() {
     done
 }
 
+# The first desk is stopped at a call, and the second must wait for it; then the first goes on, and both come to their end.
+waits() { # CALL HOW FIRST SECOND ITS-STATUS
+    local at="$1 $2: $4" first second state='' tries=0 status=0
+    # shellcheck disable=SC2086
+    "${minding[@]}" DESK_FAULT="$1 $2 $(kill -l STOP)" LD_PRELOAD="$room/faults.so" "${desk[@]}" $3 >/dev/null &
+    first=$!
+    until [ "$state" = T ] || [ $((++tries)) = 1000 ]; do
+        nap 10000
+        read -r _ _ state _ <"/proc/$first/stat"
+    done
+    rm -f "$room/second"
+    # shellcheck disable=SC2086
+    { timeout 60 "${desk[@]}" $4 >/dev/null 2>&1 || status=$?; echo $status >"$room/second"; } &
+    second=$!
+    nap 300000
+    holds "$at: does not wait" [ ! -e "$room/second" ]
+    kill -CONT $first
+    holds "$at: the first desk" wait $first
+    wait $second
+    holds "$at: the second desk" [ "$(cat "$room/second")" = "$5" ]
+}
+
+waiting() {
+    local open="open m $meter 240401 4"
+    cp "$room/serial_0" m
+    waits rename before 'file m ../blocks/day_1' 'file m ../blocks/day_2' 0
+    holds 'both are filed' cmp m "$room/serial_2"
+    rm m
+    waits link after "$open" 'file m ../blocks/day_1' 0
+    holds 'a block is filed in a ledger that was being opened' cmp m "$room/serial_1"
+    rm m
+    waits link before "$open" "$open" 2
+    holds 'the ledger of the first opening' cmp m "$room/serial_0"
+    holds 'desks that waited leave nothing' clean m
+}
+
 faults() {
     what='with faults'
     rm -rf "$room/work" "$room"/serial_?
     mkdir "$room/work"
-    desk/cc -shared -fPIC -o "$room/faults.so" desk/testing/faults.c -ldl
+    [ -p "$room/never" ] || mkfifo "$room/never"
+    "${compile[@]}" -shared -fPIC -o "$room/faults.so" desk/testing/faults.c -ldl
     cd "$room/work"
     if with_fault 'fsync-folder fails 5' open m $meter 240401 4 2>/dev/null; then
         skip 'faults: a library is not preloaded into the desk here'
@@ -117,6 +155,7 @@ faults() {
         rm m
         failing
         signals
+        waiting
     fi
     cd "$here"
 }

@@ -4,7 +4,9 @@
 
 # Sleeps so many microseconds, without a process of its own.
 nap() {
-    read -rt "$(printf '0.%06d' "$1")" <>"$room/never" || true
+    local seconds
+    printf -v seconds '0.%06d' "$1"
+    read -rt "$seconds" <>"$room/never" || true
 }
 
 clean() { [ "$(ls | tr '\n' ' ')" = "$1 " ]; }

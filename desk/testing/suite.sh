@@ -136,7 +136,7 @@ asking() {
     "${desk[@]}" page m.ledger >"$room/out"
     holds 'a page is written' [ "$(head -n 1 "$room/out") $(tail -n 1 "$room/out")" = '<!DOCTYPE html> </html>' ]
     expect differ_nothing differ m.ledger $b/three_days
-    for difference in differs differs_marks differs_both differs_start differs_flags other_meter other_day wrong_value cut no_file; do
+    for difference in differs differs_flags other_meter wrong_value no_file; do
         expect "differ_$difference" differ m.ledger $b/$difference
     done
     expect differ_no_ledger differ no.ledger $b/differs
@@ -161,9 +161,9 @@ damaged_ledgers() {
     for ledger in short damaged empty; do
         expect "$ledger" summary $ledger.ledger
         expect "file_in_$ledger" file $ledger.ledger $b/three_days $b/at_0110
-        expect "differ_in_$ledger" differ $ledger.ledger $b/three_days
-        expect "page_$ledger" page $ledger.ledger
     done
+    expect differ_in_damaged differ damaged.ledger $b/three_days
+    expect page_damaged page damaged.ledger
     holds 'a damaged ledger stays as it was' cmp damaged.ledger as_it_was
     expect no_ledger summary no.ledger
     expect no_ledger_to_file_in file no.ledger $b/at_0110
@@ -180,8 +180,11 @@ leftovers() {
     holds 'a leftover that is the ledger itself is not written into' cmp l.ledger m.ledger
     echo cut >l.ledger.new
     expect leftover_nothing_new file l.ledger $b/three_days
-    echo cut >k.ledger.new
+    cp n.ledger as_it_was
+    ln n.ledger k.ledger.new
     "${desk[@]}" open k.ledger $meter 240228 3
+    holds 'a leftover that is another ledger is not written into' cmp n.ledger as_it_was
+    rm as_it_was
     holds 'a leftover is taken over' [ "$(ls | tr '\n' ' ')" = 'k.ledger l.ledger m.ledger n.ledger ' ]
     mv l.ledger l.ledger.new
     expect leftover_named file l.ledger.new $b/three_days
@@ -223,22 +226,30 @@ longest() {
     rm longest.ledger
 }
 
-suite() { # WHAT
+# All of it; or one part, of which the second begins with the ledgers that the first left, in $kept.
+suite() { # WHAT [PART]
     what=$1
-    local b=../blocks refusal difference command ledger
+    local b=../blocks part=${2:-both} refusal difference command ledger
     rm -rf "$room/work"
     mkdir "$room/work"
     cd "$room/work"
     umask 022
-    usage_and_opening
-    filing
-    itself
-    bringing
-    asking
-    damaged_ledgers
-    leftovers
-    standard
-    longest
+    if [ "$part" != second ]; then
+        usage_and_opening
+        filing
+        itself
+        asking
+        cp m.ledger n.ledger "$room"
+    else
+        cp "$kept/m.ledger" "$kept/n.ledger" .
+    fi
+    if [ "$part" != first ]; then
+        bringing
+        damaged_ledgers
+        leftovers
+        standard
+        longest
+    fi
     holds 'nothing is left beside the ledgers' [ "$(ls | tr '\n' ' ')" = 'm.ledger n.ledger ' ]
     cd "$here"
 }
