@@ -3,8 +3,8 @@ use Rattle.desk.specs.Given.{letterOf}
 use Rattle.desk.proofs.Rows.{Row, row-none, row-first, row-all}
 use Rattle.desk.proofs.Blocks.{letter-is}
 use borrow.Author.Needs.{needs}
-use Rattle.desk.proofs.copy_identifier.Statement.{statement}
-use Rattle.desk.proofs.copy_identifier.Tie as tie
+use Rattle.desk.proofs.row.copy_identifier.Statement.{statement}
+use Rattle.desk.proofs.row.copy_identifier.Tie as tie
 
 abbrev Inv-loop : tie.InvT-loop
 Inv-loop out₀ l i₀ out i = Row (letterOf l) 12 out₀ 0 out i

@@ -1,7 +1,7 @@
 use Rattle.desk.proofs.Laws.{six-of}
 use borrow.Author.Needs.{needs}
-use Rattle.desk.proofs.put_summary.Statement.{statement}
-use Rattle.desk.proofs.put_summary.Tie as tie
+use Rattle.desk.proofs.row.put_summary.Statement.{statement}
+use Rattle.desk.proofs.row.put_summary.Tie as tie
 
 one-or-0-requires : tie.Need-one-or-0-requires
 one-or-0-requires c κs = search needs

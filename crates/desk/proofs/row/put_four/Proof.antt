@@ -1,8 +1,8 @@
 use native.Mathlib.Omega.{arith}
 use lib.ListN.{length-set}
 use borrow.Author.Needs.{needs}
-use Rattle.desk.proofs.put_four.Statement.{statement}
-use Rattle.desk.proofs.put_four.Tie as tie
+use Rattle.desk.proofs.row.put_four.Statement.{statement}
+use Rattle.desk.proofs.row.put_four.Tie as tie
 
 slice-write-out : tie.Need-slice-write-out
 slice-write-out c = search needs
