@@ -28,7 +28,7 @@ use Rattle.filing.specs.Differs.{differsOf}
 use Rattle.filing.specs.declared.Difference.{Difference}
 use Rattle.fields.specs.Views.{headerIn}
 use Rattle.desk.specs.Numbers.{oneNumber, numberOf, flagsNumber}
-use Rattle.desk.specs.Given.{given, giveRow, giveFound, letterOf, rateOf, totalsRow, headerRow, giveHeader, differenceRow, giveDiffers, giveIdentifier}
+use Rattle.desk.specs.Given.{given, giveRow, giveFound, headerNumbers, letterOf, rateOf, totalsRow, headerRow, giveHeader, differenceRow, giveDiffers, giveIdentifier}
 use Rattle.desk.proofs.Rows.{row-side}
 use Rattle.desk.proofs.Laws.{row-refused, row-short, row-given, answer-asked, halves-asked}
 
@@ -58,7 +58,7 @@ pub rate-is : (rates : List KilowattHours) (i : ℕ) → getD rates i (kilowattH
 unfolding rateOf
 rate-is rates i = refl
 
-row-long : (h : Header) (n : ℕ) → length (headerRow h n) ≡ 28
+row-long : (h : Header) (n : ℕ) → length (headerRow h n) ≡ headerNumbers
 unfolding headerRow
 row-long h n =
     length-append (table 12 (letterOf (h .identifier))) (totalsRow h ++ (table 8 (rateOf (h .rates)) ++ (n ∷ [])))
@@ -86,15 +86,15 @@ module _ (b out : List ℕ) (a : Answer) (e : a ≡ answerOf (parse b)) (r : ℕ
   unfolding giveHeader
   header-refused f h = rw (← read-found) (found-refused out (headerRow (headerIn b) (a .carried)) a r f h)
 
-  pub header-short : r ≡ oneNumber 7 28 → a .number ≡ 0 → length out < 28 → given out r ≡ giveHeader b out
+  pub header-short : r ≡ oneNumber 7 headerNumbers → a .number ≡ 0 → length out < headerNumbers → given out r ≡ giveHeader b out
   unfolding giveHeader
-  header-short f z h = rw (← read-found) (found-short out (headerRow (headerIn b) (a .carried)) a r z 28 (row-long (headerIn b) (a .carried)) f h)
+  header-short f z h = rw (← read-found) (found-short out (headerRow (headerIn b) (a .carried)) a r z headerNumbers (row-long (headerIn b) (a .carried)) f h)
 
-  pub header-given : (h : Header) (m : List ℕ) → h ≡ headerIn b → r ≡ oneNumber 0 (a .carried) → a .number ≡ 0 → 28 ≤ length out
+  pub header-given : (h : Header) (m : List ℕ) → h ≡ headerIn b → r ≡ oneNumber 0 (a .carried) → a .number ≡ 0 → headerNumbers ≤ length out
       → m ≡ sets out 0 (headerRow h (a .carried)) → given m r ≡ giveHeader b out
   unfolding giveHeader
   header-given h m eh f z l g =
-      rw (← read-found, ← eh) (found-given out (headerRow h (a .carried)) a r z 28 (row-long h (a .carried)) m f l g)
+      rw (← read-found, ← eh) (found-given out (headerRow h (a .carried)) a r z headerNumbers (row-long h (a .carried)) m f l g)
 
 -- ---- what differs
 

@@ -49,6 +49,9 @@ giveFound out a xs = cond (eqb (a .number) 0) (giveRow out 0 xs (a .carried)) (g
 -- ---- a block's header, in the block's order: identifier, time of reading, kWh register, current, previous, cumulative demand, last reset, reset count,
 -- eight rate registers, number of days
 
+abbrev pub headerNumbers : ℕ
+headerNumbers = 28
+
 unfoldable pub letterOf : List ℕ → ℕ → ℕ
 letterOf id q = getD id q 0
 

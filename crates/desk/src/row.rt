@@ -5,7 +5,7 @@ ghost use Prim.Native.Nat.{_≤_};
 ghost use lib.ListN.{length};
 ghost use lib.Seq.{sets};
 ghost use Rattle.laws.specs.Table.{table};
-ghost use Rattle.desk.specs.Given.{letterOf, rateOf, headerRow, summaryRow};
+ghost use Rattle.desk.specs.Given.{headerNumbers, letterOf, rateOf, headerRow, summaryRow};
 use crate::IDENTIFIER;
 use block::Header;
 use ledger::SummaryAnswer;
@@ -14,7 +14,7 @@ use quantity::KilowattHours;
 const RATES: usize = 8;
 
 fn put_letters(out: &mut [u64], id: [u8; 12])
-    requires { ⌜ 28 ≤ length (now out) ⌝ }
+    requires { ⌜ headerNumbers ≤ length (now out) ⌝ }
     ensures { λ _. ⌜ now (out .exit) ≡ sets (now (out .entry)) 0 (table 12 (letterOf id)) ⌝ }
 {
     let mut i: usize = 0;
@@ -25,7 +25,7 @@ fn put_letters(out: &mut [u64], id: [u8; 12])
 }
 
 fn put_totals(out: &mut [u64], a: u64, b: u64, c: u64, d: u64, e: u64, f: u64, g: u64)
-    requires { ⌜ 28 ≤ length (now out) ⌝ }
+    requires { ⌜ headerNumbers ≤ length (now out) ⌝ }
     ensures { λ _. ⌜ now (out .exit) ≡ sets (now (out .entry)) 12 (a ∷ b ∷ c ∷ d ∷ e ∷ f ∷ g ∷ []) ⌝ }
 {
     out[12] = a;
@@ -38,7 +38,7 @@ fn put_totals(out: &mut [u64], a: u64, b: u64, c: u64, d: u64, e: u64, f: u64, g
 }
 
 fn put_rates(out: &mut [u64], rates: [KilowattHours; 8])
-    requires { ⌜ 28 ≤ length (now out) ⌝ }
+    requires { ⌜ headerNumbers ≤ length (now out) ⌝ }
     ensures { λ _. ⌜ now (out .exit) ≡ sets (now (out .entry)) 19 (table 8 (rateOf rates)) ⌝ }
 {
     let mut i: usize = 0;
@@ -50,14 +50,14 @@ fn put_rates(out: &mut [u64], rates: [KilowattHours; 8])
 }
 
 fn put_days(out: &mut [u64], days: u64)
-    requires { ⌜ 28 ≤ length (now out) ⌝ }
+    requires { ⌜ headerNumbers ≤ length (now out) ⌝ }
     ensures { λ _. ⌜ now (out .exit) ≡ sets (now (out .entry)) 27 (days ∷ []) ⌝ }
 {
     out[27] = days;
 }
 
 pub fn put_header(out: &mut [u64], h: Header, days: u32)
-    requires { ⌜ 28 ≤ length (now out) ⌝ }
+    requires { ⌜ headerNumbers ≤ length (now out) ⌝ }
     ensures { λ _. ⌜ now (out .exit) ≡ sets (now (out .entry)) 0 (headerRow h days) ⌝ }
 {
     let id = h.identifier;
