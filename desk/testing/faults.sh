@@ -143,11 +143,11 @@ waiting() {
 
 faults() {
     what='with faults'
-    rm -rf "$room/work" "$room"/serial_?
-    mkdir "$room/work"
+    rm -rf "$room/trial" "$room"/serial_?
+    mkdir "$room/trial"
     [ -p "$room/never" ] || mkfifo "$room/never"
     "${compile[@]}" -shared -fPIC -o "$room/faults.so" desk/testing/faults.c -ldl
-    cd "$room/work"
+    cd "$room/trial"
     if with_fault 'fsync-folder fails 5' open m $meter 240401 4 2>/dev/null; then
         skip 'faults: a library is not preloaded into the desk here'
     else

@@ -169,10 +169,10 @@ too_large() {
 
 rough() { # WHAT ROUNDS
     what=$1
-    rm -rf "$room/work" "$room"/serial_? "$room/never"
-    mkdir "$room/work"
+    rm -rf "$room/trial" "$room"/serial_? "$room/never"
+    mkdir "$room/trial"
     mkfifo "$room/never"
-    cd "$room/work"
+    cd "$room/trial"
     serial_ledgers
     at_once "$(($2 / 5))"
     opens_at_once "$(($2 / 10))"

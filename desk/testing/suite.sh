@@ -230,9 +230,9 @@ longest() {
 suite() { # WHAT [PART]
     what=$1
     local b=../blocks part=${2:-both} refusal difference command ledger
-    rm -rf "$room/work"
-    mkdir "$room/work"
-    cd "$room/work"
+    rm -rf "$room/trial"
+    mkdir "$room/trial"
+    cd "$room/trial"
     umask 022
     if [ "$part" != second ]; then
         usage_and_opening
