@@ -5,7 +5,7 @@
 with_fault() { # FAULT WORD..
     local fault=$1
     shift
-    "${minding[@]}" DESK_FAULT="$fault" LD_PRELOAD="$room/faults.so" "${desk[@]}" "$@"
+    "${preloaded[@]}" DESK_FAULT="$fault" "${desk[@]}" "$@"
 }
 
 # A filing with a fault, held to desk/expected/fault_NAME; then the ledger is SERIAL, and alone.
@@ -109,7 +109,7 @@ signals() {
 waits() { # CALL HOW FIRST SECOND ITS-STATUS
     local at="$1 $2: $4" first second state='' tries=0 status=0
     # shellcheck disable=SC2086
-    "${minding[@]}" DESK_FAULT="$1 $2 $(kill -l STOP)" LD_PRELOAD="$room/faults.so" "${desk[@]}" $3 >/dev/null &
+    "${preloaded[@]}" DESK_FAULT="$1 $2 $(kill -l STOP)" "${desk[@]}" $3 >/dev/null &
     first=$!
     until [ "$state" = T ] || [ $((++tries)) = 1000 ]; do
         nap 10000
@@ -141,12 +141,14 @@ waiting() {
     holds 'desks that waited leave nothing' clean m
 }
 
-faults() {
-    what='with faults'
+faults() { # WHAT
+    what="$1, with faults"
     rm -rf "$room/trial" "$room"/serial_?
     mkdir "$room/trial"
     [ -p "$room/never" ] || mkfifo "$room/never"
     "${compile[@]}" -shared -fPIC -o "$room/faults.so" desk/testing/faults.c -ldl
+    # The address sanitizer minds that another library comes before its own, unless told not to.
+    preloaded=("${minding[@]}" LD_PRELOAD="$room/faults.so" ASAN_OPTIONS=verify_asan_link_order=0)
     cd "$room/trial"
     if with_fault 'fsync-folder fails 5' open m $meter 240401 4 2>/dev/null; then
         skip 'faults: a library is not preloaded into the desk here'
