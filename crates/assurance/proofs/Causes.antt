@@ -1,4 +1,4 @@
--- Answers 11 and 12 have exactly the causes that document 01 names.
+-- Answers 11 and 12 have exactly the causes that docs/ANSWERS.md names.
 -- Assumes nothing.
 use Prim.Native.Nat.{ℕ, zero, suc, _+_, _<_, _≤_}
 use mathlib.Core.Path.{_≡_, refl, sym, _∙_, subst}

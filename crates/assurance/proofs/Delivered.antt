@@ -1,6 +1,6 @@
 -- Demand 3: whatever is drawn from a run's blocks and filed, the ledger holds exactly what was told, as it happened.
 -- Assumes nothing.
-use Prim.Native.Nat.{ℕ, _+_, _-_, _*_, _<_, _≤_}
+use Prim.Native.Nat.{ℕ, _+_, _-_, _*_, _/_, _<_, _≤_}
 use mathlib.Core.Path.{_≡_, refl, sym, ap, _∙_, subst, fun-ext}
 use mathlib.Core.Logic.{_↔_, ⊎-elim}
 use native.Mathlib.Decide.{decLt}
@@ -16,6 +16,7 @@ use Rattle.laws.proofs.Bools.{iff-trans}
 use Rattle.laws.proofs.Checks.{none-fails, passed-first}
 use Rattle.laws.proofs.Split.{by-test, by-dec}
 use Rattle.laws.proofs.Tests.{sum-same}
+use Rattle.calendar.specs.Clock.{endedOn}
 use Rattle.block.specs.declared.Answer.{Answer}
 use Rattle.block.specs.Fields.{identIn}
 use Rattle.block.specs.Parse.{fields, parse}
@@ -53,7 +54,7 @@ use Rattle.assurance.specs.Paper.{Counts, Paper, totalAt, unitsOf, histo
 use Rattle.assurance.specs.Written.{written, blankPaper, writtenAll, paper}
 use Rattle.assurance.specs.Sent.{daysDue, fieldsDue}
 use Rattle.assurance.specs.Run.{Call, eventsOf, blocksIn}
-use Rattle.assurance.specs.Delivered.{answersAll, carriedAll, heldOn, past, counted, Drawn, Summed, opened, filed, DayTold, HalfTold, DayHeld, Holds}
+use Rattle.assurance.specs.Delivered.{answersAll, carriedAll, heldOn, past, counted, Drawn, Summed, opened, filed, DayTold, HalfTold, Sender, whenRead, Gave, HalfRead, DayHeld, Holds}
 use Rattle.assurance.proofs.Kept.{Given, Kept}
 use Rattle.assurance.proofs.Start.{given, made-kept}
 use Rattle.assurance.proofs.Run.{kept, run-kept}
@@ -63,6 +64,8 @@ use Rattle.assurance.proofs.Summed.{summed}
 use Rattle.assurance.proofs.Reading.{block-reads}
 use Rattle.assurance.proofs.Honest.{ident-due, honest}
 use Rattle.assurance.proofs.Blocks.{SentAfter, sent-after}
+use Rattle.assurance.proofs.Senders.{senders}
+use Rattle.assurance.proofs.Sending.{ended-reached}
 
 -- a life goes on
 written-append : (s : SetUp) (p : Paper) (earlier later : List Event) → writtenAll s p (earlier ++ later) ≡ writtenAll s (writtenAll s p earlier) later
@@ -70,8 +73,12 @@ unfolding writtenAll
 written-append s p [] later = refl
 written-append s p (e ∷ earlier) later = written-append s (written s p e) earlier later
 
+-- a half-hour of day d has ended where its number is below the running one's
+ended-so : (t d j : ℕ) → j < 48 → (j < endedOn t d) ↔ (48 * d + j < t / 1800)
+ended-so t d j few = (λ l. omega (arith, ended-reached t d), λ l. omega (arith, ended-reached t d))
+
 -- an accepted opening
-opened-well : (l id : List ℕ) (first days : ℕ) → openOf l id first days .answer ≡ 0 → (openOk id first days ≡ true) × (length l ≡ lengthOf days)
+pub opened-well : (l id : List ℕ) (first days : ℕ) → openOf l id first days .answer ≡ 0 → (openOk id first days ≡ true) × (length l ≡ lengthOf days)
 unfolding openOf openAnswer openChecks
 opened-well l id first days e =
     let a : openAnswer l id first days ≡ 0 = go in
@@ -273,6 +280,23 @@ module _ (s : SetUp) (x : Store) (cs : List Call) (accepted : setUp s x .answer 
     unfolding heldOn
     held-at i j = let at : first + i - first ≡ i = omega arith in rw (in-window i j, first-is, at)
 
+    -- ---- told is read
+
+    read-by : (b : List ℕ) → List·Memᴰ b bs → Sender s x cs l first days bs b
+    read-by b i = senders (setUp s x .after) cs b .0 (drawn b i)
+
+    told-read : (d j : ℕ) → j < 48 → HalfTold s x cs l first days bs d j ↔ HalfRead s x cs l first days bs d j
+    told-read d j few = (
+      λ t.
+          let r = read-by (t .0) (t .1) in
+          let g : Gave s x cs l first days bs (t .0) r d = rw (r .time, r .days) at (t .2) in
+          let u = rw (r .time) at (t .3) in
+          (t .0, t .1, r, g, ended-so (whenRead s x cs l first days bs (t .0) r .recorder .clock .time) d j few .0 u),
+      λ t.
+          let r = t .2 in
+          (t .0, t .1, rw (r .time, r .days) (t .3), rw (r .time) (ended-so (whenRead s x cs l first days bs (t .0) r .recorder .clock .time) d j few .1 (t .4))),
+    )
+
     day-held : (i : ℕ) → i < days → DayHeld s x cs l first days bs (first + i) (heldOn (filed s x cs l first days bs) (first + i)) (missingOf (filed s x cs l first days bs) (first + i))
     unfolding dayMissing
     day-held i j =
@@ -331,6 +355,8 @@ module _ (s : SetUp) (x : Store) (cs : List Call) (accepted : setUp s x .answer 
     unfolding heldIn
     holds = record {
       answers = λ a i. answers-well hd (opened s x cs l first days bs) bs refused-none a i;
+      read = read-by;
+      told = told-read;
       day = day-held;
       summary = day-summed;
       newly =

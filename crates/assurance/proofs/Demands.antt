@@ -1,22 +1,31 @@
 -- The three demands.
 -- Assumes nothing.
 use Prim.Native.Nat.{ℕ}
-use mathlib.Core.Path.{_≡_, refl, ap, _∙_}
+use mathlib.Core.Path.{_≡_, refl, sym, ap, _∙_}
+use mathlib.Core.Logic.{_↔_}
 use mathlib.Core.List.{List}
+use native.Mathlib.Decide.{ℕ-discrete}
+use native.Mathlib.Omega.{arith}
 use lib.Dec.{eqb}
 use lib.ListN.{length, take}
-use Rattle.laws.proofs.Split.{by-test}
+use borrow.Author.Tests.{eqb-true, eqb-false, ne-eqb}
+use Rattle.laws.proofs.Split.{by-test, by-dec}
 use Rattle.block.specs.declared.Answer.{Answer}
 use Rattle.block.specs.declared.Header.{Header}
 use Rattle.block.specs.Parse.{fields, parse}
-use Rattle.block.proofs.Trip.{accepted-reads, parse-back}
+use Rattle.block.proofs.Trip.{accepted-reads, parse-back, reads-accepted}
 use Rattle.judgement.specs.Source.{lent}
 use Rattle.judgement.specs.Days.{daysFrom}
 use Rattle.judgement.specs.Given.{given}
 use Rattle.writer.specs.Send.{writeOf}
 use Rattle.writer.proofs.Sent.{refused-keeps, sent-bytes, sent-reads}
 use Rattle.ledger.specs.Open.{openAnswer, openOf}
-use Rattle.kept.proofs.Stays.{refused-same}
+use Rattle.ledger.specs.Asked.{asked, daySummary, noSummary, summaryOf, dayMissing, noMissing, missingOf}
+use Rattle.filing.specs.File.{fileAnswer, fileOf}
+use Rattle.filing.specs.Differs.{noDifference, differsOf}
+use Rattle.filing.proofs.Differing.{carried-12, carried-other}
+use Rattle.desk.proofs.ForC.{apart, header-stays, differs-stays, identifier-stays, summary-stays, halves-stays, listing-stays, missing-refused as c-missing, flags-refused, window-refused, day-again, date-again}
+use Rattle.kept.proofs.Stays.{answer-is, refused-same}
 use Rattle.store.specs.Store.{Store}
 use Rattle.recorder.proofs.Kept.{refused, set-up-blank, blank-refused}
 use Rattle.recorder.specs.declared.SetUp.{SetUp}
@@ -24,18 +33,22 @@ use Rattle.recorder.specs.declared.Event.{Event}
 use Rattle.recorder.specs.Recorder.{Mem}
 use Rattle.recorder.specs.Step.{step, run}
 use Rattle.recorder.specs.SetUp.{started, blank, setUp}
-use Rattle.readout.specs.Read.{headerSent, daysSent, sourceSent, readAnswer, readOf}
+use Rattle.readout.specs.Read.{headerSent, daysSent, sourceSent, readAnswer, readOf, readBack}
 use Rattle.assurance.specs.Written.{paper}
 use Rattle.assurance.specs.Sent.{daysDue, fieldsDue, blockDue, sentDue}
 use Rattle.assurance.specs.Run.{Call, runAll, eventsOf, blockOf}
+use Rattle.assurance.specs.ForC.{ForC}
 use Rattle.assurance.specs.Demands.{Demand1, Demand2, Demand3}
 use Rattle.assurance.proofs.Start.{given as given-of}
 use Rattle.assurance.proofs.Run.{kept}
 use Rattle.assurance.proofs.Life.{life}
 use Rattle.assurance.proofs.Reading.{block-reads, read-is}
 use Rattle.assurance.proofs.Blocks.{run-events}
+use Rattle.assurance.proofs.Senders.{senders, registers-read}
 use Rattle.assurance.proofs.Causes.{causes}
-use Rattle.assurance.proofs.Delivered.{holds}
+use Rattle.assurance.proofs.Refusals.{read-answer, write-answer}
+use Rattle.assurance.proofs.Again.{written-again}
+use Rattle.assurance.proofs.Delivered.{opened-well, holds}
 
 -- ---- demand 1
 
@@ -55,6 +68,54 @@ open-refused l id first days n =
     (λ t. absurd (n (rw t)))
     (λ t. rw t)
 
+hands : (asked : ℕ) (x : Mem) (out : List ℕ) → readBack asked x out .handed .recorder ≡ x .recorder
+unfolding readBack
+hands asked x out = refl
+
+summary-refused : (l : List ℕ) (day : ℕ) → (summaryOf l day .answer ≡ 0 → ⊥) → summaryOf l day ≡ noSummary (summaryOf l day .answer)
+unfolding summaryOf daySummary
+summary-refused l day n = by-test (eqb (asked l day) 0) (λ t. absurd (n (rw t))) (λ t. rw t)
+
+missing-refused : (l : List ℕ) (day : ℕ) → (missingOf l day .answer ≡ 0 → ⊥) → missingOf l day ≡ noMissing (missingOf l day .answer)
+unfolding missingOf dayMissing
+missing-refused l day n = by-test (eqb (asked l day) 0) (λ t. absurd (n (rw t))) (λ t. rw t)
+
+differs-refused : (l b : List ℕ) → (differsOf l b .number ≡ 0 → ⊥) → differsOf l b ≡ noDifference (fileOf l b .answer)
+unfolding differsOf fileOf
+differs-refused l b n =
+    by-test (eqb (fileAnswer l b) 12)
+    (λ t. absurd (n (carried-12 l b (eqb-true (fileAnswer l b) 12 t) .0)))
+    (λ t.
+    let other = carried-other l b (eqb-false (fileAnswer l b) 12 t) .0 in
+    rw (t, ne-eqb (fileAnswer l b) 0 (λ z. n (other ∙ z))))
+
+differs-found : (l b : List ℕ) → ((differsOf l b .number ≡ 0) × (differsOf l b .carried ≡ 1)) ↔ (fileOf l b .answer .number ≡ 12)
+differs-found l b =
+    by-dec (ℕ-discrete (fileAnswer l b) 12)
+    (λ e. ((λ _. answer-is l b ∙ e), (λ _. carried-12 l b e)))
+    (λ e.
+    let other = carried-other l b e in
+    ((λ d. absurd (let z : _≡_ {A = ℕ} 1 0 = sym (d .1) ∙ other .1 (d .0) in omega arith)), (λ d. absurd (e (sym (answer-is l b) ∙ d)))))
+
+-- for C
+
+for-c : ForC
+for-c = record {
+  apart = apart;
+  header = header-stays;
+  differs = differs-stays;
+  identifier = identifier-stays;
+  summary = summary-stays;
+  halves = halves-stays;
+  listing = listing-stays;
+  missing = c-missing;
+  flags = flags-refused;
+  window = window-refused;
+  day = day-again;
+  date = date-again;
+  ledger-length = λ l id first days e. opened-well l id first days e .1;
+}
+
 blank-read : (asked : ℕ) (x : Store) (out : List ℕ) → readOf asked (record { recorder = blank; store = x }) out .answer .number ≡ 5
 unfolding readOf readAnswer blank started
 blank-read asked x out = refl
@@ -69,17 +130,27 @@ set-up-carries s x = refl
 
 pub demand-1 : Demand1
 demand-1 = record {
+  set-up = set-up-blank;
   steps = refused;
   reads = read-refused;
+  hands = hands;
   writes = λ h n v s m out f. refused-keeps h n (lent n) v s m out f;
+  sends = refused-keeps;
   opens = open-refused;
   files = refused-same;
-  set-up = set-up-blank;
+  summaries = summary-refused;
+  missings = missing-refused;
+  differs = differs-refused;
+  for-c = for-c;
   blank-step = blank-refused;
   blank-read = blank-read;
   step-carries = step-carries;
   set-up-carries = set-up-carries;
+  read-answer = read-answer;
+  write-answer = write-answer;
+  refuses = λ n vs. (accepted-reads n vs, reads-accepted n vs);
   causes = causes;
+  found = differs-found;
 }
 
 -- ---- demand 2
@@ -107,8 +178,11 @@ demand-2 = record {
   life = life;
   calls = λ x cs. run-events cs x;
   read = reads;
+  blocks = senders;
+  header = λ asked x out twelve e. registers-read asked x out e twelve;
   parses = parses;
   writes = writes;
+  rewrites = λ b n vs out e room. written-again b n vs e out room;
   back = accepted-reads;
   again = λ b n vs e. parse-back b n vs e .0;
 }

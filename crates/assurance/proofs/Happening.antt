@@ -1,4 +1,4 @@
--- Marks and flags say exactly what happened, and the paper knows the half-hour of the last Reset.
+-- Marks and flags say exactly what happened.
 -- Assumes nothing.
 use Prim.Native.Nat.{ℕ, _/_, _≤_}
 use mathlib.Core.Path.{_≡_, refl, sym, ap, _∙_}
@@ -16,7 +16,7 @@ use Rattle.recorder.specs.declared.Event.the-variants.{Count, Clock, Off, On, A
 use Rattle.recorder.specs.Answer.{eventAnswer, wrongPower, isOn}
 use Rattle.assurance.specs.Paper.{Tape, Paper, now, today}
 use Rattle.assurance.specs.Written.{markAt, markFrom, writes, due, written, blankTape, blankPaper, writtenAll, paper}
-use Rattle.assurance.specs.Meaning.{isReset, lastReset, Some, Outage, MeterOn, ResetOn, ReverseIn, Level2In}
+use Rattle.assurance.specs.Meaning.{Some, Outage, MeterOn, ResetOn, ReverseIn, Level2In}
 
 mark-iff : (at : ℕ) (f : ℕ → Bool) (q : ℕ) → (markAt at f q ≡ true) ↔ ((f q ≡ true) ⊎ (q ≡ at))
 unfolding markAt
@@ -164,26 +164,6 @@ level2-sets s q p Reverse = quiet _ _ (λ h. neither (λ e. never (cc e)) (λ e.
 pub level2-exactly : (s : SetUp) (es : List Event) (q : ℕ) → (paper s es .tape .marks .level2 q ≡ true) ↔ Some s (Level2In q) (blankPaper s) es
 unfolding blankTape
 level2-exactly s es q = exactly s (λ t. t .marks .level2 q) (Level2In q) (level2-sets s q) refl es
-
--- ---- the half-hour of the last Reset
-
-since-step : (s : SetUp) (p : Paper) (b : Bool) (e : Event)
-    → cond b (writes s p e) p .tape .demands .since ≡ cond (isReset s e && b) (now p) (p .tape .demands .since)
-since-step s p true (Count c) = refl
-since-step s p true (Clock t) = refl
-since-step s p true Off = refl
-since-step s p true (On t) = refl
-since-step s p true Access = refl
-since-step s p true (Meter c) = refl
-since-step s p true Reset = refl
-since-step s p true (Rate n) = refl
-since-step s p true Reverse = refl
-since-step s p false e = rw (no-right (isReset s e) false refl)
-
-pub since-is : (s : SetUp) (es : List Event) (p : Paper) → writtenAll s p es .tape .demands .since ≡ lastReset s (p .tape .demands .since) p es
-unfolding writtenAll lastReset written
-since-is s [] p = refl
-since-is s (e ∷ es) p = since-is s es (written s p e) ∙ ap (λ (q : ℕ). lastReset s q (written s p e) es) (since-step s p (eqb (due s p e) 0) e)
 
 -- while power is off nothing but On is written: the paper that On finds is that of Off
 pub off-still : (s : SetUp) (p : Paper) (e : Event) → p .on ≡ false → isOn e ≡ false → written s p e ≡ p

@@ -11,6 +11,7 @@ pub mod Answer
 pub mod Run
 pub mod Past
 pub mod Energy
+pub mod Registers
 pub mod Happening
 pub mod Sending
 pub mod Sound
@@ -18,7 +19,10 @@ pub mod Life
 pub mod Reading
 pub mod Honest
 pub mod Blocks
+pub mod Senders
 pub mod Summed
 pub mod Delivered
 pub mod Causes
+pub mod Refusals
+pub mod Again
 pub mod Demands

@@ -1,6 +1,6 @@
 -- A life ends as its events say: the store is the last days of the history, and every register and mark has its meaning.
 -- Assumes nothing.
-use Prim.Native.Nat.{ℕ, zero, suc, _+_, _-_, _*_, _/_, _%_}
+use Prim.Native.Nat.{ℕ, zero, suc, _+_, _-_, _*_, _/_, _%_, _<_}
 use mathlib.Core.Path.{_≡_, refl, sym, ap, _∙_}
 use mathlib.Core.Logic.{inl, inr}
 use mathlib.Core.Bool.{Bool, true, false, cond}
@@ -28,8 +28,8 @@ use Rattle.recorder.specs.Recorder.{Mem}
 use Rattle.recorder.specs.SetUp.{setUp, made}
 use Rattle.assurance.specs.Paper.{Counts, Paper, now, today, totalAt, unitsOf, largest, historyOf}
 use Rattle.assurance.specs.Written.{due, written, blankTape, blankPaper}
-use Rattle.assurance.specs.Meaning.{energyIn, countedIn, countedBefore, Some}
-use Rattle.assurance.specs.Life.{end, told, past, ended, DayStored, Ring, energyAt, unitsIn, since, Means, Life}
+use Rattle.assurance.specs.Meaning.{energyIn, countedIn, countedBefore, countedAt, Some}
+use Rattle.assurance.specs.Life.{end, told, past, ended, DayStored, Ring, energyAt, unitsIn, since, resets, Means, Life}
 use Rattle.assurance.proofs.Kept.{Given, Stored, Kept, capOf, reached, ofDay, cap-is}
 use Rattle.assurance.proofs.Close.{advance-of}
 use Rattle.assurance.proofs.Counting.{largest-same}
@@ -38,7 +38,8 @@ use Rattle.assurance.proofs.Start.{given, made-kept}
 use Rattle.assurance.proofs.Answer.{in-range, answer-due}
 use Rattle.assurance.proofs.Run.{kept}
 use Rattle.assurance.proofs.Energy.{before-is, rates-are, all-before}
-use Rattle.assurance.proofs.Happening.{outage-exactly, meter-exactly, reset-exactly, reverse-exactly, level2-exactly, since-is}
+use Rattle.assurance.proofs.Registers.{Told, time-is, power-is, counter-is, rate-is, register-is, resets-told}
+use Rattle.assurance.proofs.Happening.{outage-exactly, meter-exactly, reset-exactly, reverse-exactly, level2-exactly}
 use Rattle.assurance.proofs.Sending.{ended-reached, days-are, stored}
 
 -- a refused event counts nothing
@@ -139,13 +140,22 @@ module _ (s : SetUp) (x : Store) (es : List Event) (accepted : setUp s x .answer
       ∙ ap (λ (n : ℕ). (s .total .0 + n) % 1000000000) (rates-are s z es (blankPaper s) (made s) (made-kept s z) ∙ zero-add (countedIn s (blankPaper s) es))
       ∙ sym total-told
 
+  cleared : Told (unitsIn s x es) (blankTape s .demands) (p .tape .demands) (resets s x es)
+  cleared = resets-told s (unitsIn s x es) es (blankPaper s) units-are
+
   current-told : y .recorder .demand .current .0 ≡ 2 * largest (unitsIn s x es) (since s x es) (now p - since s x es)
   unfolding blankTape
   current-told =
       k .at .demand .current
-      ∙ ap (λ (q : ℕ). 2 * largest (unitsOf s c) q (now p - q)) (since-is s es (blankPaper s))
+      ∙ ap (λ (q : ℕ). 2 * largest (unitsOf s c) q (now p - q)) (cleared .since)
       ∙ ap (λ (n : ℕ). 2 * n)
       (largest-same (unitsOf s c) (unitsIn s x es) (since s x es) (now p - since s x es) (λ q _ _. units-are q))
+
+  rate-told : (i : ℕ) → i < 8 → getD (y .recorder .energy .rates) i noEnergy .0 ≡ countedAt s (suc i) 1 (blankPaper s) es % 1000000000
+  unfolding blankTape
+  rate-told i l =
+      k .at .energy .rates i l
+      ∙ ap (λ (n : ℕ). n % 1000000000) (register-is s z i es (blankPaper s) (made s) (made-kept s z) ∙ zero-add (countedAt s (suc i) 1 (blankPaper s) es))
 
   module _ (d : ℕ) where
     start-told : past s x es .start d ≡ totalAt s c (48 * d) / 10 % 100000000
@@ -175,11 +185,20 @@ module _ (s : SetUp) (x : Store) (es : List Event) (accepted : setUp s x .answer
         ∙ rw next
 
   pub means : Means s x es
-  unfolding historyOf
+  unfolding historyOf blankTape
   means = record {
+    time = k .time ∙ time-is s es (blankPaper s);
+    power = k .on ∙ power-is s es (blankPaper s);
+    counter = k .last ∙ counter-is s es (blankPaper s);
+    active = k .rate ∙ rate-is s es (blankPaper s);
     total = total-told;
+    rate = rate-told;
     rates = rates-told;
     current = current-told;
+    previous = k .at .demand .previous ∙ cleared .previous;
+    cumulative = k .at .demand .cumulative ∙ ap (λ (n : ℕ). n % 1000000) (cleared .cumulative ∙ zero-add _);
+    date = k .at .demand .reset ∙ cleared .date;
+    count = k .at .demand .count ∙ ap (λ (n : ℕ). n % 100) (cleared .resets ∙ zero-add _);
     start = λ d. let e : 48 * d + 0 ≡ 48 * d = omega arith in rw e (start-told d ∙ ap (λ (n : ℕ). n / 10 % 100000000) (total-is (48 * d)));
     value = λ d j. value-told d j ∙ ap (λ (n : ℕ). n / 10 % 10000) (total-is (48 * d + suc j));
     few = λ q. omega (arith, units-are q, k .at .energy .slow q);

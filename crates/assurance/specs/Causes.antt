@@ -1,4 +1,4 @@
--- Why a good ledger refuses a block that the reader takes (document 01, answers 11 and 12), by the identifiers and the days themselves.
+-- Why a good ledger refuses a block that the reader takes (docs/ANSWERS.md, answers 11 and 12), by the identifiers and the days themselves.
 use Prim.Native.Nat.{ℕ, _+_, _<_, _≤_}
 use mathlib.Core.Path.{_≡_}
 use mathlib.Core.Bool.{true}

@@ -1,6 +1,6 @@
 -- A run's blocks at the desk: any list drawn from them, filed one after another in a fresh ledger of that meter, and what the ledger then holds
--- (document 01, "The ledger").
-use Prim.Native.Nat.{ℕ, _<_, _≤_, _+_, _-_, _*_}
+-- (docs/RULES.md, "The ledger").
+use Prim.Native.Nat.{ℕ, _<_, _≤_, _+_, _-_, _*_, _/_, min}
 use mathlib.Core.Path.{_≡_}
 use mathlib.Core.Logic.{_↔_}
 use mathlib.Core.Bool.{true, cond}
@@ -8,7 +8,7 @@ use mathlib.Core.List.{List, [], _∷_, List·Memᴰ}
 use Rattle.laws.specs.Bits.{bit}
 use Rattle.laws.specs.Tests.{sumBelow}
 use Rattle.quantity.specs.Units.{unitOf}
-use Rattle.calendar.specs.Clock.{halvesOfDay, endedOn}
+use Rattle.calendar.specs.Clock.{secondsOfHalf, secondsOfDay, halvesOfDay, endedOn}
 use Rattle.block.specs.declared.Answer.{Answer}
 use Rattle.profile.specs.Profile.{advanceAt}
 use Rattle.days.specs.Day.{History, Day, absent, isHeld, startOf, flagsOf, halfAt, count}
@@ -28,7 +28,8 @@ use Rattle.recorder.specs.declared.SetUp.{SetUp}
 use Rattle.recorder.specs.SetUp.{setUp}
 use Rattle.assurance.specs.Written.{blankPaper}
 use Rattle.assurance.specs.Meaning.{countedBefore}
-use Rattle.assurance.specs.Run.{Call, eventsOf, blocksIn}
+use Rattle.recorder.specs.Recorder.{Mem}
+use Rattle.assurance.specs.Run.{Call, runAll, eventsOf, blocksIn, ReadIn}
 use Rattle.assurance.specs.Life as life
 
 -- the answers of filing blocks one after another, and what they carry together
@@ -81,6 +82,22 @@ module _ (s : SetUp) (x : Store) (cs : List Call) where
     abbrev pub HalfTold : ℕ → ℕ → Type 0
     HalfTold d j = (b : List ℕ) × List·Memᴰ b bs × Carries (viewOf b) d × (j < endedOn (viewOf b .time) d)
 
+    -- the same by the calls alone: some delivered block was sent by a read that gave day d among its days, when half-hour j of it was before the running one
+    abbrev pub Sender : List ℕ → Type 0
+    Sender b = ReadIn (setUp s x .after) cs b
+
+    abbrev pub whenRead : (b : List ℕ) → Sender b → Mem
+    whenRead b r = runAll (setUp s x .after) (r .earlier)
+
+    abbrev pub Gave : (b : List ℕ) → Sender b → ℕ → Type 0
+    Gave b r d =
+        let today = whenRead b r .recorder .clock .time / secondsOfDay in
+        (d ≤ today) × (today < d + min (r .asked) (whenRead b r .recorder .clock .days))
+
+    abbrev pub HalfRead : ℕ → ℕ → Type 0
+    HalfRead d j =
+        (b : List ℕ) × List·Memᴰ b bs × (r : Sender b) × Gave b r d × (halvesOfDay * d + j < whenRead b r .recorder .clock .time / secondsOfHalf)
+
     -- y is what the ledger has of day d, and m what it says is missing
     pub record DayHeld (d : ℕ) (y : Day) (m : MissingAnswer) : Type 0 where
       pub day : (isHeld y ≡ true) ↔ DayTold d
@@ -95,6 +112,9 @@ module _ (s : SetUp) (x : Store) (cs : List Call) where
     pub record Holds : Type 0 where
       -- nothing is refused
       pub answers : (a : Answer) → List·Memᴰ a (answersAll opened bs) → a .number ≡ 0
+      -- each was sent by a read of the run, and has its time and its days; so told is: had ended when a delivered block that gives the day was read
+      pub read : (b : List ℕ) → List·Memᴰ b bs → Sender b
+      pub told : (d j : ℕ) → j < halvesOfDay → HalfTold d j ↔ HalfRead d j
       -- each day of the window
       pub day : (i : ℕ) → i < days → DayHeld (first + i) (heldOn filed (first + i)) (missingOf filed (first + i))
       pub summary : (i : ℕ) → i < days → Summed past (first + i) (heldOn filed (first + i)) (summaryOf filed (first + i))

@@ -1,53 +1,78 @@
 -- The three demands, each as the statement that is proved of it (proofs/Demands.antt): over `setUp`, `step`, `readOf`, `writeOf`, `openOf`, `fileOf` and
 -- `parse`, the definitions that the contracts of the code cite, so that it holds of the code.
-use Prim.Native.Nat.{ℕ}
+use Prim.Native.Nat.{ℕ, _<_, _≤_}
 use mathlib.Core.Path.{_≡_}
 use mathlib.Core.Bool.{true}
-use mathlib.Core.List.{List}
+use mathlib.Core.List.{List, List·Memᴰ}
+use mathlib.Core.Logic.{_↔_}
 use lib.ListN.{length}
+use lib.Seq.{sets}
+use Rattle.laws.specs.Checks.{firstFailing}
 use Rattle.block.specs.declared.Header.{Header}
+use Rattle.block.specs.Answers.{answer}
 use Rattle.block.specs.Layout.{renderBlock}
 use Rattle.block.specs.Parse.{fields, parse, acceptable}
+use Rattle.judgement.specs.declared.Source.{Source}
 use Rattle.judgement.specs.Source.{lent}
 use Rattle.judgement.specs.Days.{daysFrom}
 use Rattle.judgement.specs.Given.{given}
-use Rattle.writer.specs.Send.{writeOf}
+use Rattle.writer.specs.Send.{sent, sendOf, writeOf}
+use Rattle.fields.specs.Views.{headerIn}
 use Rattle.ledger.specs.Judged.{judged}
 use Rattle.ledger.specs.Open.{openOf}
+use Rattle.ledger.specs.Asked.{noSummary, summaryOf, noMissing, missingOf}
 use Rattle.filing.specs.File.{fileOf}
+use Rattle.filing.specs.Differs.{noDifference, differsOf}
 use Rattle.store.specs.Store.{Store}
+use Rattle.registers.specs.Energy.{rateCount}
 use Rattle.recorder.specs.declared.Event.{Event}
 use Rattle.recorder.specs.declared.SetUp.{SetUp}
 use Rattle.recorder.specs.Recorder.{Mem}
 use Rattle.recorder.specs.Step.{step, run}
 use Rattle.recorder.specs.SetUp.{blank, setUp}
-use Rattle.readout.specs.Read.{readOf}
+use Rattle.readout.specs.Read.{readOf, readBack}
 use Rattle.assurance.specs.Written.{paper}
 use Rattle.assurance.specs.Sent.{daysDue, fieldsDue, blockDue, sentDue}
-use Rattle.assurance.specs.Run.{Call, runAll, eventsOf, blockOf}
+use Rattle.assurance.specs.Run.{Call, runAll, eventsOf, blockOf, blocksIn, ReadIn, Registers}
 use Rattle.assurance.specs.Life.{Life}
 use Rattle.assurance.specs.Causes.{Causes}
+use Rattle.assurance.specs.Refusals.{Refused, readRefusals, writeRefusals}
+use Rattle.assurance.specs.ForC.{ForC}
+use Rattle.assurance.specs.Again.{valuesOf, startsOf, wordsOf}
 use Rattle.assurance.specs.Delivered.{Drawn, Holds}
 
-abbrev pub Refused : ℕ → Type 0
-Refused number = number ≡ 0 → ⊥
-
--- Demand 1: whatever is given, a refusal changes nothing, and the desk refuses only with cause. (That every call answers, and by document 01's table, is its contract, which asks nothing.)
+-- Demand 1: whatever is given, a refusal changes nothing, and is given only with cause. (That every call answers, and by the table of docs/ANSWERS.md, is its contract, which asks nothing.)
 pub record Demand1 : Type 0 where
+  -- a refusal hands back the recorder given, and store, ledger and output hold the bytes they held: set-up, events, reads, the writer of given days and of the
+  -- store's, opening, filing. A refused set-up gives the blank recorder; a read hands back the recorder that it was given, refused or not
+  pub set-up : (s : SetUp) (x : Store) → Refused (setUp s x .answer) → setUp s x .after ≡ record { recorder = blank; store = x }
   pub steps : (x : Mem) (e : Event) → Refused (step x e .answer) → step x e .after ≡ x
   pub reads : (asked : ℕ) (x : Mem) (out : List ℕ) → Refused (readOf asked x out .answer .number) → readOf asked x out .out ≡ out
+  pub hands : (asked : ℕ) (x : Mem) (out : List ℕ) → readBack asked x out .handed .recorder ≡ x .recorder
   pub writes : (h : Header) (n : ℕ) (v s m out : List ℕ) → Refused (writeOf h n v s m out .answer .number) → writeOf h n v s m out .out ≡ out
+  pub sends : (h : Header) (n : ℕ) (from : Source) (v s m out : List ℕ) → Refused (sendOf h n from v s m out .answer .number) → sendOf h n from v s m out .out ≡ out
   pub opens : (l id : List ℕ) (first days : ℕ) → Refused (openOf l id first days .answer) → openOf l id first days .ledger ≡ l
   pub files : (l b : List ℕ) → Refused (fileOf l b .answer .number) → fileOf l b .ledger ≡ l
-  -- a refused set-up leaves the store, and its blank recorder is refused by every call with 5
-  pub set-up : (s : SetUp) (x : Store) → Refused (setUp s x .answer) → setUp s x .after ≡ record { recorder = blank; store = x }
+  -- a question that is refused tells nothing: a day's summary, what is missing of it, where a block differs
+  pub summaries : (l : List ℕ) (day : ℕ) → Refused (summaryOf l day .answer) → summaryOf l day ≡ noSummary (summaryOf l day .answer)
+  pub missings : (l : List ℕ) (day : ℕ) → Refused (missingOf l day .answer) → missingOf l day ≡ noMissing (missingOf l day .answer)
+  pub differs : (l b : List ℕ) → Refused (differsOf l b .number) → differsOf l b ≡ noDifference (fileOf l b .answer)
+  -- the functions for C
+  pub for-c : ForC
+  -- the blank recorder is refused by every call with 5
   pub blank-step : (x : Store) (e : Event) → step (record { recorder = blank; store = x }) e .answer ≡ 5
   pub blank-read : (asked : ℕ) (x : Store) (out : List ℕ) → readOf asked (record { recorder = blank; store = x }) out .answer .number ≡ 5
   -- neither an event nor a set-up carries anything
   pub step-carries : (x : Mem) (e : Event) → step x e .carried ≡ 0
   pub set-up-carries : (s : SetUp) (x : Store) → setUp s x .carried ≡ 0
-  -- a block that the reader takes is refused by a good ledger for another identifier and for what differs, and for nothing else
+  -- a read and the writer refuse exactly where the rules say so: the block's own 5 where store days to be sent are out of range, or where the reader would refuse it
+  pub read-answer : (asked : ℕ) (x : Mem) (out : List ℕ) → readOf asked x out .answer .number ≡ firstFailing (readRefusals asked x (length out))
+  pub write-answer : (h : Header) (n : ℕ) (v s m out : List ℕ) → length (h .rates) ≡ rateCount
+      → writeOf h n v s m out .answer .number ≡ firstFailing (writeRefusals h n v s m (length out))
+  pub refuses : (n : ℕ) (vs : List ℕ) → (acceptable n vs ≡ true) ↔ (parse (renderBlock n vs) ≡ fields n vs)
+  -- a block that the reader takes is refused by a good ledger for another identifier and for what differs, and for nothing else; the second is what `differs` says
   pub causes : (l b : List ℕ) (n : ℕ) (vs : List ℕ) → judged l ≡ 0 → parse b ≡ fields n vs → Causes l b
+  pub found : (l b : List ℕ) → ((differsOf l b .number ≡ 0) × (differsOf l b .carried ≡ 1)) ↔ (fileOf l b .answer .number ≡ 12)
 
 -- Demand 2: values, event by event and at every point of every life, and the block both ways.
 pub record Demand2 : Type 0 where
@@ -57,11 +82,19 @@ pub record Demand2 : Type 0 where
   pub calls : (x : Mem) (cs : List Call) → runAll x cs ≡ run x (eventsOf cs)
   pub read : (s : SetUp) (x : Store) (cs : List Call) (asked : ℕ) (out : List ℕ) → setUp s x .answer ≡ 0
       → readOf asked (runAll (setUp s x .after) cs) out ≡ sentDue s (paper s (eventsOf cs)) asked out
+  -- the blocks of a run are what its reads that are answered 0 sent, those and no others
+  pub blocks : (x : Mem) (cs : List Call) (b : List ℕ) → List·Memᴰ b (blocksIn x cs) ↔ ReadIn x cs b
+  -- what a read sends has the recorder's registers, as `fields` gives its header
+  pub header : (asked : ℕ) (x : Mem) (out : List ℕ) → length (x .recorder .identity .identifier) ≡ 12 → readOf asked x out .answer .number ≡ 0
+      → Registers (x .recorder) (headerIn (blockOf (readOf asked x out)))
   pub parses : (s : SetUp) (x : Store) (es : List Event) (asked : ℕ) → setUp s x .answer ≡ 0
       → parse (blockDue s (paper s es) asked) ≡ fields (daysDue s (paper s es) asked) (fieldsDue s (paper s es) asked)
   -- a block written from given fields reads back as these
   pub writes : (h : Header) (n : ℕ) (v s m out : List ℕ) → length (h .rates) ≡ 8 → writeOf h n v s m out .answer .number ≡ 0
       → parse (blockOf (writeOf h n v s m out)) ≡ fields n (given h n (daysFrom (lent n) v s m))
+  -- one that the reader takes, its header and days as `fields` gives them handed to the writer, is answered 0 with the very same bytes, and no other byte moves
+  pub rewrites : (b : List ℕ) (n : ℕ) (vs out : List ℕ) → parse b ≡ fields n vs → length b ≤ length out
+      → writeOf (headerIn b) n (valuesOf b n) (startsOf b n) (wordsOf b n) out ≡ sent (sets out 0 b) (answer 0 (length b))
   -- so does any block of acceptable fields; and one that is read, written again from its fields, is the same bytes
   pub back : (n : ℕ) (vs : List ℕ) → acceptable n vs ≡ true → parse (renderBlock n vs) ≡ fields n vs
   pub again : (b : List ℕ) (n : ℕ) (vs : List ℕ) → parse b ≡ fields n vs → renderBlock n vs ≡ b

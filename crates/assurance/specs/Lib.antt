@@ -1,4 +1,5 @@
 -- Paper: what happened, without end. Written: what each event writes on it. Meaning: what is said of a list of events. Sent: what a read sends.
+-- Life, Run, Again, Delivered, Causes, Refusals, ForC: what is said of each. Demands: the three demands.
 pub mod Paper
 pub mod Written
 pub mod Meaning
@@ -7,4 +8,7 @@ pub mod Life
 pub mod Run
 pub mod Delivered
 pub mod Causes
+pub mod Refusals
+pub mod ForC
+pub mod Again
 pub mod Demands

@@ -1,19 +1,20 @@
 -- A life: an accepted set-up, whatever store was lent, and any list of events, refused ones among them. Where it ends, the store is the last days of its
--- history, and every register and every mark means what the events say (document 01, "Quantities", "Events").
+-- history, and every register and every mark means what the events say (docs/RULES.md, "Quantities", "Events").
 use Prim.Native.Nat.{ℕ, suc, _+_, _-_, _*_, _/_, _%_, _<_, _≤_}
 use mathlib.Core.Path.{_≡_}
 use mathlib.Core.Logic.{_↔_}
 use mathlib.Core.Bool.{true}
 use mathlib.Core.List.{List}
-use lib.ListN.{getD}
+use lib.ListN.{length, getD}
 use Rattle.laws.specs.Bits.{bitAt}
 use Rattle.laws.specs.Tests.{sumBelow}
-use Rattle.quantity.specs.Units.{unitOf, totalRound, readingRound, valueRound}
+use Rattle.quantity.specs.Units.{unitOf, totalRound, demandRound, readingRound, valueRound}
 use Rattle.calendar.specs.Clock.{secondsOfHalf, halvesOfDay, endedOn}
 use Rattle.profile.specs.Profile.{advanceAt}
 use Rattle.days.specs.Day.{History}
 use Rattle.store.specs.Store.{Store}
 use Rattle.registers.specs.Energy.{noEnergy, rateCount}
+use Rattle.registers.specs.Demand.{countRound}
 use Rattle.recorder.specs.declared.SetUp.{SetUp}
 use Rattle.recorder.specs.declared.Event.{Event}
 use Rattle.recorder.specs.Recorder.{Mem}
@@ -25,7 +26,7 @@ use Rattle.recorder.specs.SetUp.{setUp}
 use Rattle.recorder.specs.Stored.{startOf, valueOf, reverseWord, level2Word, flagsWord}
 use Rattle.assurance.specs.Paper.{Paper, now, today, largest, historyOf}
 use Rattle.assurance.specs.Written.{due, blankPaper, paper}
-use Rattle.assurance.specs.Meaning.{countedIn, countedBefore, lastReset, Some, Outage, MeterOn, ResetOn, ReverseIn, Level2In}
+use Rattle.assurance.specs.Meaning.{countedIn, countedBefore, countedAt, timeSet, powerSet, counterSet, rateSet, lastSet, resetHalves, found, lastOr, sumOf, daysNamed, Some, Outage, MeterOn, ResetOn, ReverseIn, Level2In}
 use Rattle.assurance.specs.Sent.{storedDays}
 
 module _ (s : SetUp) (x : Store) (es : List Event) where
@@ -63,10 +64,17 @@ module _ (s : SetUp) (x : Store) (es : List Event) where
   abbrev pub unitsIn : ℕ → ℕ
   unitsIn q = energyAt (suc q) / unitOf - energyAt q / unitOf
 
-  -- the half-hour of set-up or of the last Reset; and: such an event was accepted
-  abbrev pub since : ℕ
-  since = lastReset s (s .time / secondsOfHalf) (blankPaper s) es
+  -- the half-hours of the accepted Resets, and the largest demand that each found; the half-hour of the last, or of set-up
+  abbrev pub resets : List ℕ
+  resets = resetHalves s (blankPaper s) es
 
+  abbrev pub peaks : List ℕ
+  peaks = found unitsIn (s .time / secondsOfHalf) resets
+
+  abbrev pub since : ℕ
+  since = lastOr (s .time / secondsOfHalf) resets
+
+  -- such an event was accepted
   abbrev pub Happened : (Paper → Event → Type 0) → Type 0
   Happened H = Some s H (blankPaper s) es
 
@@ -78,10 +86,23 @@ module _ (s : SetUp) (x : Store) (es : List Event) where
   Flagged flag d = past .flags d / flag % 2 ≡ 1
 
   pub record Means : Type 0 where
+    -- the present: the time of the last accepted Clock or On, or set-up's; power as the last accepted Off or On left it, on at first;
+    -- the counter's value of the last accepted Count or Meter, or set-up's; the rate of the last accepted Rate, or 1
+    pub time : end .recorder .clock .time ≡ lastSet s timeSet (s .time) (blankPaper s) es
+    pub power : end .recorder .clock .on ≡ lastSet s powerSet true (blankPaper s) es
+    pub counter : end .recorder .energy .last ≡ lastSet s counterSet (s .counter) (blankPaper s) es
+    pub active : end .recorder .energy .rate ≡ lastSet s rateSet 1 (blankPaper s) es
     -- the registers
     pub total : end .recorder .energy .total .0 ≡ (s .total .0 + countedIn s (blankPaper s) es) % totalRound
+    -- each rate register: the watt-hours of the Counts accepted while its rate was active; all eight have what is counted
+    pub rate : (i : ℕ) → i < rateCount → getD (end .recorder .energy .rates) i noEnergy .0 ≡ countedAt s (suc i) 1 (blankPaper s) es % totalRound
     pub rates : (s .total .0 + sumBelow (λ i. getD (end .recorder .energy .rates) i noEnergy .0) rateCount) % totalRound ≡ end .recorder .energy .total .0
     pub current : end .recorder .demand .current .0 ≡ 2 * largest unitsIn since (now told - since)
+    -- what the last Reset found, or 0; what all of them found; the day of the last; how many they were
+    pub previous : end .recorder .demand .previous .0 ≡ lastOr 0 peaks
+    pub cumulative : end .recorder .demand .cumulative .0 ≡ sumOf peaks % demandRound
+    pub date : end .recorder .demand .reset ≡ lastOr 0 (daysNamed resets)
+    pub count : end .recorder .demand .count ≡ length resets % countRound
     -- the half-hours
     pub start : (d : ℕ) → past .start d ≡ energyAt (halfOf d 0) / unitOf % readingRound
     pub value : (d j : ℕ) → past .half d j .value ≡ energyAt (halfOf d (suc j)) / unitOf % valueRound

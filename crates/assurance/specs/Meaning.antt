@@ -1,16 +1,62 @@
--- What is said of a run from its events alone: the watt-hours counted, the half-hour of the last Reset, and whether some event of a kind was accepted.
-use Prim.Native.Nat.{ℕ, _+_, _/_, _≤_}
+-- What is said of a run from its events alone: time, power, counter and active rate, the watt-hours counted, and at each rate, the half-hours of the Resets and what each found,
+-- and whether some event of a kind was accepted.
+use Prim.Native.Nat.{ℕ, suc, _+_, _-_, _*_, _/_, _≤_}
 use mathlib.Core.Path.{_≡_}
 use mathlib.Core.Logic.{_⊎_}
 use mathlib.Core.Bool.{Bool, true, false, cond, _&&_}
 use mathlib.Core.List.{List, [], _∷_}
 use lib.Dec.{eqb, ltb}
-use Rattle.calendar.specs.Clock.{secondsOfDay}
+use Rattle.calendar.specs.Clock.{secondsOfDay, halvesOfDay}
 use Rattle.recorder.specs.declared.SetUp.{SetUp}
 use Rattle.recorder.specs.declared.Event.{Event}
 use Rattle.recorder.specs.declared.Event.the-variants.{Count, Clock, Off, On, Access, Meter, Reset, Rate, Reverse}
-use Rattle.assurance.specs.Paper.{Paper, now, today}
+use Rattle.assurance.specs.Paper.{Paper, now, today, largest}
 use Rattle.assurance.specs.Written.{energyOf, due, written}
+
+-- what each event sets: the time by Clock and On, power by Off and On, the counter's last value by Count and Meter, the active rate by Rate
+abbrev pub timeSet : ℕ → Event → ℕ
+timeSet t (Count c) = t
+timeSet t (Clock u) = u
+timeSet t Off = t
+timeSet t (On u) = u
+timeSet t Access = t
+timeSet t (Meter c) = t
+timeSet t Reset = t
+timeSet t (Rate n) = t
+timeSet t Reverse = t
+
+abbrev pub powerSet : Bool → Event → Bool
+powerSet b (Count c) = b
+powerSet b (Clock t) = b
+powerSet b Off = false
+powerSet b (On t) = true
+powerSet b Access = b
+powerSet b (Meter c) = b
+powerSet b Reset = b
+powerSet b (Rate n) = b
+powerSet b Reverse = b
+
+abbrev pub counterSet : ℕ → Event → ℕ
+counterSet l (Count c) = c
+counterSet l (Clock t) = l
+counterSet l Off = l
+counterSet l (On t) = l
+counterSet l Access = l
+counterSet l (Meter c) = c
+counterSet l Reset = l
+counterSet l (Rate n) = l
+counterSet l Reverse = l
+
+abbrev pub rateSet : ℕ → Event → ℕ
+rateSet r (Count c) = r
+rateSet r (Clock t) = r
+rateSet r Off = r
+rateSet r (On t) = r
+rateSet r Access = r
+rateSet r (Meter c) = r
+rateSet r Reset = r
+rateSet r (Rate n) = n
+rateSet r Reverse = r
 
 module _ (s : SetUp) where
   -- the watt-hours of an event: those of an accepted Count
@@ -34,6 +80,19 @@ module _ (s : SetUp) where
   countedBefore q p [] = 0
   countedBefore q p (e ∷ es) = cond (ltb (now p) q) (energyIn p e) 0 + countedBefore q (written s p e) es
 
+  -- what accepted events set, one after another: an accepted one sets f, of what was set before and itself
+  abbrev pub setBy : {A : Type 0} → (A → Event → A) → A → Paper → Event → A
+  setBy f a p e = cond (eqb (due s p e) 0) (f a e) a
+
+  unfoldable pub lastSet : {A : Type 0} → (A → Event → A) → A → Paper → List Event → A
+  lastSet f a p [] = a
+  lastSet f a p (e ∷ es) = lastSet f (setBy f a p e) (written s p e) es
+
+  -- the watt-hours of the Counts accepted while rate n was active, rate r being active at first
+  unfoldable pub countedAt : ℕ → ℕ → Paper → List Event → ℕ
+  countedAt n r p [] = 0
+  countedAt n r p (e ∷ es) = cond (eqb r n) (energyIn p e) 0 + countedAt n (setBy rateSet r p e) (written s p e) es
+
   abbrev pub isReset : Event → Bool
   isReset (Count c) = false
   isReset (Clock t) = false
@@ -45,10 +104,10 @@ module _ (s : SetUp) where
   isReset (Rate n) = false
   isReset Reverse = false
 
-  -- the half-hour of the last accepted Reset, or the one given where there is none
-  unfoldable pub lastReset : ℕ → Paper → List Event → ℕ
-  lastReset q p [] = q
-  lastReset q p (e ∷ es) = lastReset (cond (isReset e && eqb (due s p e) 0) (now p) q) (written s p e) es
+  -- the half-hours of the accepted Resets, in their order
+  unfoldable pub resetHalves : Paper → List Event → List ℕ
+  resetHalves p [] = []
+  resetHalves p (e ∷ es) = cond (isReset e && eqb (due s p e) 0) (now p ∷ resetHalves (written s p e) es) (resetHalves (written s p e) es)
 
   -- some event of the list is such, at the paper that stood before it, and accepted
   abbrev pub Some : (Paper → Event → Type 0) → Paper → List Event → Type 0
@@ -72,3 +131,22 @@ ReverseIn q p e = (e ≡ Reverse) × (q ≡ now p)
 
 abbrev pub Level2In : ℕ → Paper → Event → Type 0
 Level2In q p e = ((e ≡ Access) ⊎ ((e ≡ Reset) ⊎ ((c : ℕ) × (e ≡ Meter c)))) × (q ≡ now p)
+
+-- what each Reset found, of Resets in these half-hours: twice the largest units of a half-hour from set-up, or the Reset before, up to its own
+unfoldable pub found : (ℕ → ℕ) → ℕ → List ℕ → List ℕ
+found u from [] = []
+found u from (q ∷ qs) = 2 * largest u from (q - from) ∷ found u q qs
+
+-- the last of a list, or the number given where it is empty; and its sum
+unfoldable pub lastOr : ℕ → List ℕ → ℕ
+lastOr n [] = n
+lastOr n (m ∷ ms) = lastOr m ms
+
+unfoldable pub sumOf : List ℕ → ℕ
+sumOf [] = 0
+sumOf (m ∷ ms) = m + sumOf ms
+
+-- a day as the reset date has it: 0 never, d + 1 on day d
+unfoldable pub daysNamed : List ℕ → List ℕ
+daysNamed [] = []
+daysNamed (q ∷ qs) = suc (q / halvesOfDay) ∷ daysNamed qs

@@ -1,5 +1,5 @@
 -- An outstation with paper that never ends: what set-up and the events wrote, with no store and no register that runs round.
--- Half-hour q is half-hour q % 48 of day q / 48, all numbered from 2000-01-01 00:00 (document 01, "Quantities").
+-- Half-hour q is half-hour q % 48 of day q / 48, all numbered from 2000-01-01 00:00 (docs/RULES.md, "Quantities").
 use Prim.Native.Nat.{ℕ, zero, suc, _+_, _-_, _*_, _/_, _%_, max}
 use mathlib.Core.Bool.{Bool}
 use Rattle.laws.specs.Bits.{bit}

@@ -1,4 +1,4 @@
--- What a read sends, by the paper alone (document 01, "The block"): the registers run round, and the last days of the history, newest first.
+-- What a read sends, by the paper alone (docs/RULES.md, "The block"): the registers run round, and the last days of the history, newest first.
 -- In the current day a half-hour not yet ended repeats the last ended value, or the start reading's digits, and carries no mark.
 use Prim.Native.Nat.{ℕ, suc, _+_, _-_, _/_, _%_, min}
 use mathlib.Core.Bool.{Bool, false, not, cond}

@@ -1,4 +1,4 @@
--- What each event writes on the paper (document 01, "Events", the table, in its order), when it is accepted, and the paper of a whole list of events.
+-- What each event writes on the paper (docs/RULES.md, "Events", the table, in its order), when it is accepted, and the paper of a whole list of events.
 -- A half-hour to come is written as if nothing more happened: so Clock writes nothing, and a Count adds to every later half-hour's beginning.
 use Prim.Native.Nat.{ℕ, suc, _+_, _-_, _/_}
 use mathlib.Core.Bool.{Bool, true, false, cond, _||_, _&&_}

@@ -1,8 +1,8 @@
--- An answer and what it carries as one number for C (document 01, "A form for each place": answer number and offset as one number), and day numbers
+-- An answer and what it carries as one number for C (docs/RULES.md, "A form for each place": answer number and offset as one number), and day numbers
 -- against dates YYMMDD.
 use mathlib.Core.Bool.{cond}
 use mathlib.Core.List.{List}
-use Prim.Native.Nat.{ℕ, _+_, _-_, _*_}
+use Prim.Native.Nat.{ℕ, _+_, _-_, _*_, _/_, _%_}
 use lib.Dec.{eqb}
 use Rattle.calendar.specs.declared.Found.{Found}
 use Rattle.calendar.specs.declared.Found.the-variants.{Day, Unreal}
@@ -14,9 +14,18 @@ use Rattle.ledger.specs.Rooms.{slot}
 use Rattle.ledger.specs.Judged.{judged}
 use Rattle.ledger.specs.Asked.{asked}
 
--- 2 ^ 32 times the answer, and what it carries
+-- 2 ^ 32 times the answer, and what it carries; and what C finds in such a number
+abbrev pub answerPlace : ℕ
+answerPlace = 4294967296
+
 abbrev pub oneNumber : ℕ → ℕ → ℕ
-oneNumber answer carried = answer * 4294967296 + carried
+oneNumber answer carried = answer * answerPlace + carried
+
+abbrev pub answerIn : ℕ → ℕ
+answerIn number = number / answerPlace
+
+abbrev pub carriedIn : ℕ → ℕ
+carriedIn number = number % answerPlace
 
 abbrev pub numberOf : Answer → ℕ
 numberOf a = oneNumber (a .number) (a .carried)
