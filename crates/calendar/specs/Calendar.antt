@@ -1,4 +1,4 @@
--- Days and dates (document 01, "Quantities": 2000-01-01 to 2099-12-31; YY means 20YY). A day is its number, 0 for 2000-01-01.
+-- Days and dates (docs/RULES.md, "Quantities": 2000-01-01 to 2099-12-31; YY means 20YY). A day is its number, 0 for 2000-01-01.
 -- In these hundred years a year is a leap year exactly where 4 divides it: 2000 is one, and 2100 is past the end.
 use mathlib.Core.Bool.{Bool, cond, _&&_}
 use mathlib.Core.List.{[], _∷_}

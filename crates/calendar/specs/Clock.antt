@@ -1,4 +1,4 @@
--- Time (document 01, "Quantities"): whole seconds from 2000-01-01 00:00:00; a day has 48 half-hours, and a second that is a boundary
+-- Time (docs/RULES.md, "Quantities"): whole seconds from 2000-01-01 00:00:00; a day has 48 half-hours, and a second that is a boundary
 -- belongs to the half-hour it opens, so a half-hour has ended at t when its end is at or before t.
 use mathlib.Core.Bool.{Bool, cond, _&&_}
 use Prim.Native.Nat.{ℕ, _+_, _*_, _/_, _%_}

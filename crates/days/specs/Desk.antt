@@ -1,4 +1,4 @@
--- A ledger in memory of whatever kind L, fed with blocks of whatever kind B (document 01, "The ledger"): what it must have, the laws that it must
+-- A ledger in memory of whatever kind L, fed with blocks of whatever kind B (docs/RULES.md, "The ledger"): what it must have, the laws that it must
 -- keep, and a run of filings.
 use mathlib.Core.Path.{_≡_}
 use mathlib.Core.Bool.{Bool, true, false, cond, _&&_}

@@ -1,5 +1,5 @@
 -- One life worked through, so that demand 3 is seen to speak of something: counts, a read at 01:10 and one at 02:05, an outage over two midnights, a read of
--- three days after it; of the three blocks the second is lost and the first comes late. Each number is document 01's.
+-- three days after it; of the three blocks the second is lost and the first comes late. Each number is that of docs/RULES.md.
 use Prim.Native.Nat.{ℕ, _*_}
 use mathlib.Core.Path.{_≡_}
 use mathlib.Core.List.{List, [], _∷_, map}

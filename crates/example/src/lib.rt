@@ -1,1 +1,1 @@
-// One life worked through, from set-up to the ledger: specs/ says what happens and what document 01 says of it, proofs/ computes it, and there is no code.
+// One life worked through, from set-up to the ledger: specs/ says what happens and what the rules say of it, proofs/ computes it, and there is no code.

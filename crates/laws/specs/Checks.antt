@@ -1,4 +1,4 @@
--- Refusals in an order (document 01, "Checked in this order"): the first check that fails gives the answer number, and 0 is given where none does.
+-- Refusals in an order (docs/RULES.md, "Checked in this order"): the first check that fails gives the answer number, and 0 is given where none does.
 use Prim.Native.Nat.{ℕ}
 use mathlib.Core.List.{List, [], _∷_}
 use mathlib.Core.Bool.{Bool, cond}

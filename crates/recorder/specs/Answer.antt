@@ -1,4 +1,4 @@
--- The answer to an event (document 01, "Answer numbers"): 4, 5, 1, 6, 2, 3 in this order, but 5 first for a recorder without a real class, which has no length to compare.
+-- The answer to an event (docs/RULES.md, "Answer numbers"): 4, 5, 1, 6, 2, 3 in this order, but 5 first for a recorder without a real class, which has no length to compare.
 use Prim.Native.Nat.{ℕ}
 use mathlib.Core.Bool.{Bool, not}
 use mathlib.Core.List.{List, [], _∷_}

@@ -1,4 +1,4 @@
--- Boundaries (document 01, "Events", Clock): each boundary passed closes a half-hour at the present reading. The running one keeps its marks; those passed over have advance 0 and none.
+-- Boundaries (docs/RULES.md, "Events", Clock): each boundary passed closes a half-hour at the present reading. The running one keeps its marks; those passed over have advance 0 and none.
 -- Current demand is the largest of the half-hours closed; where a boundary is midnight a day opens, in the oldest day's room when the store is full.
 use Prim.Native.Nat.{ℕ, _+_, _*_, _/_, _%_, min}
 use mathlib.Core.Bool.{true, cond}

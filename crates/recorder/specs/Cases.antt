@@ -1,5 +1,5 @@
--- The starred cases of document 01's table "Reckoned by hand" that concern the recorder, its outage of three days, the daily flags, and answers 1, 6 and 2: for each what the definitions give,
--- and what document 01 says.
+-- The starred cases of the table "Reckoned by hand" of docs/RULES.md that concern the recorder, its outage of three days, the daily flags, and answers 1, 6 and 2: for each what the definitions give,
+-- and what the rules say.
 use Prim.Native.Nat.{ℕ}
 use mathlib.Core.List.{List, [], _∷_, map}
 use lib.ListN.{replicate}

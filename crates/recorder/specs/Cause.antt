@@ -1,4 +1,4 @@
--- What an event is refused for, of a recorder that is good (document 01, "Answer numbers"): 1, 6, 2 and 3, each by the event and what the recorder has.
+-- What an event is refused for, of a recorder that is good (docs/RULES.md, "Answer numbers"): 1, 6, 2 and 3, each by the event and what the recorder has.
 use Prim.Native.Nat.{ℕ}
 use mathlib.Core.Bool.{Bool, true, false, not, cond, _&&_}
 use lib.Dec.{ltb, leb}

@@ -1,4 +1,4 @@
--- What an accepted event does (document 01, "Events", the table, in its order).
+-- What an accepted event does (docs/RULES.md, "Events", the table, in its order).
 use Prim.Native.Nat.{ℕ, _+_, _-_, max}
 use mathlib.Core.Bool.{true, false}
 use Rattle.registers.specs.Demand.{demandReset}

@@ -1,4 +1,4 @@
--- The recorder beside its store: ranges, boundaries, what each event does, what it is refused for, set-up, and document 01's cases.
+-- The recorder beside its store: ranges, boundaries, what each event does, what it is refused for, set-up, and the cases reckoned by hand.
 pub mod Recorder
 pub mod Range
 pub mod Boundary

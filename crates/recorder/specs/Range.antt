@@ -1,4 +1,4 @@
--- The ranges of a recorder's fields (document 01, answer 5), as tests that compute.
+-- The ranges of a recorder's fields (docs/ANSWERS.md, answer 5), as tests that compute.
 use Prim.Native.Nat.{ℕ}
 use mathlib.Core.Bool.{Bool}
 use mathlib.Core.List.{List, [], _∷_}

@@ -1,4 +1,4 @@
--- Set-up (document 01, "Set-up"): power is on, rate 1 is active, rate registers, demands and reset count are zero, there was no reset; the first day is stored.
+-- Set-up (docs/RULES.md, "Set-up"): power is on, rate 1 is active, rate registers, demands and reset count are zero, there was no reset; the first day is stored.
 -- A value out of range is 6, and that before a store of another length, 4. A refused set-up returns one fixed blank recorder, and leaves the store.
 use Prim.Native.Nat.{ℕ, _/_}
 use mathlib.Core.Bool.{Bool, true, false, not, cond}

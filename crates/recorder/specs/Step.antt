@@ -1,4 +1,4 @@
--- A step (document 01, "Events"): each event takes the recorder and hands the recorder back, with the answer. Every refusal changes nothing.
+-- A step (docs/RULES.md, "Events"): each event takes the recorder and hands the recorder back, with the answer. Every refusal changes nothing.
 use Prim.Native.Nat.{ℕ}
 use mathlib.Core.Bool.{cond}
 use mathlib.Core.List.{List, [], _∷_}

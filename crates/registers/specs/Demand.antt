@@ -1,4 +1,4 @@
--- The demand registers (document 01, "Events", Reset): current is the largest demand of the half-hours closed since set-up or the last Reset; a Reset moves it to previous and adds it to cumulative.
+-- The demand registers (docs/RULES.md, "Events", Reset): current is the largest demand of the half-hours closed since set-up or the last Reset; a Reset moves it to previous and adds it to cumulative.
 -- Of a reset date 0 is never, and d + 1 is day d.
 use Prim.Native.Nat.{ℕ, _+_, _%_, _<_, max}
 use mathlib.Core.Bool.{Bool}

@@ -1,4 +1,4 @@
--- The energy registers (document 01, "Events", Count): pulses are the counter's value less the last one, modulo 2^32; times the weight they are added to the total and to the active rate's register.
+-- The energy registers (docs/RULES.md, "Events", Count): pulses are the counter's value less the last one, modulo 2^32; times the weight they are added to the total and to the active rate's register.
 -- Beside that the units of the running half-hour, reckoned without run-round, by which Count is refused.
 use Prim.Native.Nat.{ℕ, _+_, _-_, _*_, _%_, _^_, _<_, _≤_}
 use mathlib.Core.Bool.{Bool, false, _&&_}

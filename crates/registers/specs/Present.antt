@@ -1,4 +1,4 @@
--- The present (document 01, "Events"): its time, whether power is on, and the days stored, which are 1 to those of the class and no more than there were up to today.
+-- The present (docs/RULES.md, "Events"): its time, whether power is on, and the days stored, which are 1 to those of the class and no more than there were up to today.
 use Prim.Native.Nat.{ℕ, _+_, _-_, _*_, _/_, _<_, _≤_, min}
 use mathlib.Core.Bool.{Bool, true}
 use mathlib.Core.List.{List, [], _∷_}

@@ -1,4 +1,4 @@
--- Classes a, b, c, d hold 20, 100, 250, 450 days, the current day among them (document 01, "Set-up"), and the store's length depends on the class alone.
+-- Classes a, b, c, d hold 20, 100, 250, 450 days, the current day among them (docs/RULES.md, "Set-up"), and the store's length depends on the class alone.
 -- Blank is the class that is no class, and holds none.
 use Prim.Native.Nat.{ℕ, _*_}
 use mathlib.Core.Bool.{Bool, _&&_}
