@@ -1,5 +1,5 @@
 //! The coverage table: how often each kind of call gave each answer number in the
-//! scripts of one round, and which answers that document 01 allows were not reached.
+//! scripts of one round, and which answers that the rules allow were not reached.
 
 use crate::lives;
 use crate::script;
@@ -7,7 +7,7 @@ use std::collections::{BTreeMap, BTreeSet};
 
 const ANSWERS: usize = 13;
 
-/// Each call and the answer numbers that document 01 allows it. Opening is always lent the right
+/// Each call and the answer numbers that the rules allow it. Opening is always lent the right
 /// length by a script, so its 4 can't be reached there.
 const ALLOWED: [(&str, &[usize]); 20] = [
     ("setup", &[0, 4, 6]),

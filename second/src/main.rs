@@ -1,4 +1,4 @@
-//! The second program: the rules of document 01 written again, on their own, and a
+//! The second program: the rules of docs/RULES.md written again, on their own, and a
 //! comparer that plays scripts here and in the proved program.
 
 #![deny(warnings)]

@@ -1,4 +1,4 @@
-//! The cases that document 01 reckons by hand and its listing example. Beside them
+//! The cases of docs/RULES.md that are reckoned by hand and its listing example. Beside them
 //! the order of the answers, and what must hold of any block and any refusal.
 
 mod hold;
