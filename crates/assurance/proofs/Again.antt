@@ -12,9 +12,10 @@ use borrow.Author.Tests.{le-leb, lt-ltb, le-ltb, eq-eqb}
 use Rattle.laws.proofs.Rows.{part-sets}
 use Rattle.laws.proofs.Table.{length-table, table-at}
 use Rattle.calendar.specs.Calendar.{daysInAll}
+use Rattle.calendar.specs.Clock.{halvesOfDay}
 use Rattle.profile.specs.Profile.{valuesFrom}
 use Rattle.block.specs.Answers.{answer}
-use Rattle.block.specs.Layout.{reset}
+use Rattle.block.specs.Layout.{mostDays, blockBytes}
 use Rattle.block.specs.Header.{headerOf}
 use Rattle.block.specs.Fields.{fieldsIn, daysIn, startIn, flagsIn, halfIn, reverseIn, level2In}
 use Rattle.block.specs.Parse.{fields, parse, acceptable}
@@ -38,7 +39,7 @@ module _ (b : List ℕ) (n : ℕ) (vs : List ℕ) (read : parse b ≡ fields n v
   ok-fields : acceptable n vs ≡ true
   ok-fields = parse-back b n vs read .1
 
-  here : (length b ≡ 112 + 219 * n) × (n ≤ 450) × (vs ≡ fieldsIn b)
+  here : (length b ≡ blockBytes n) × (n ≤ mostDays) × (vs ≡ fieldsIn b)
   here = parsed-is b n vs read
 
   days-here : daysIn (length b) ≡ n
@@ -68,13 +69,13 @@ module _ (b : List ℕ) (n : ℕ) (vs : List ℕ) (read : parse b ≡ fields n v
     unfolding startsOf dayGiven
     start-here = table-at n (λ i. dayGiven b i .start .0) i 0 l ∙ rw (there, ← here .2)
 
-    value-here : (j : ℕ) → j < 48 → getD v (i * 48 + j) 0 ≡ halfIn vs i j
+    value-here : (j : ℕ) → j < halvesOfDay → getD v (i * halvesOfDay + j) 0 ≡ halfIn vs i j
     unfolding valuesOf halfGiven
     value-here j k =
-        let at : (i * 48 + j) / 48 ≡ i = omega arith in
-        let rest : (i * 48 + j) % 48 ≡ j = omega arith in
-        table-at (n * 48) (λ q. halfGiven b (q / 48) (q % 48) .value .0) (i * 48 + j) 0 (omega arith)
-        ∙ rw (at, rest, there, lt-ltb j 48 k, ← here .2)
+        let at : (i * halvesOfDay + j) / halvesOfDay ≡ i = omega arith in
+        let rest : (i * halvesOfDay + j) % halvesOfDay ≡ j = omega arith in
+        table-at (n * halvesOfDay) (λ q. halfGiven b (q / halvesOfDay) (q % halvesOfDay) .value .0) (i * halvesOfDay + j) 0 (omega arith)
+        ∙ rw (at, rest, there, lt-ltb j halvesOfDay k, ← here .2)
 
     reverse-here : getD m (i * 3) 0 ≡ reverseIn vs i
     unfolding wordsOf dayGiven
@@ -105,7 +106,7 @@ module _ (b : List ℕ) (n : ℕ) (vs : List ℕ) (read : parse b ≡ fields n v
         record {
           start = rw room start-here;
           flags = rw room flags-here;
-          value = λ j k. rw (room, all, lt-ltb j 48 k) (value-here j k);
+          value = λ j k. rw (room, all, lt-ltb j halvesOfDay k) (value-here j k);
           reverse = rw (room, all) reverse-here;
           level2 = rw (room, all) level2-here;
         }
@@ -118,11 +119,11 @@ module _ (b : List ℕ) (n : ℕ) (vs : List ℕ) (read : parse b ≡ fields n v
   shaped-here =
       lent-shaped n (length v) (length s) (length m)
       ∙ rw (
-        length-table (n * 48) (λ q. halfGiven b (q / 48) (q % 48) .value .0),
+        length-table (n * halvesOfDay) (λ q. halfGiven b (q / halvesOfDay) (q % halvesOfDay) .value .0),
         length-table n (λ i. dayGiven b i .start .0),
         length-table (n * 3) (λ q. cond (eqb (q % 3) 0) (dayGiven b (q / 3) .reverse) (cond (eqb (q % 3) 1) (dayGiven b (q / 3) .level2) (dayGiven b (q / 3) .flags))),
-        le-leb n 450 (here .1),
-        eq-eqb (n * 48) (n * 48) refl,
+        le-leb n mostDays (here .1),
+        eq-eqb (n * halvesOfDay) (n * halvesOfDay) refl,
         eq-eqb n n refl,
         eq-eqb (n * 3) (n * 3) refl,
       )
@@ -135,7 +136,7 @@ module _ (b : List ℕ) (n : ℕ) (vs : List ℕ) (read : parse b ≡ fields n v
   -- THE BLOCK AGAIN
   pub written-again : (out : List ℕ) → length b ≤ length out → writeOf (headerIn b) n v s m out ≡ sent (sets out 0 b) (answer 0 (length b))
   written-again out room =
-      rw (header-here, send-shaped (headerOf vs) n (lent n) v s m out shaped-here, writable-here, le-ltb (length out) (112 + 219 * n) (omega (arith, here .0)), given-here, parse-back b n vs read .0, here .0)
+      rw (header-here, send-shaped (headerOf vs) n (lent n) v s m out shaped-here, writable-here, le-ltb (length out) (blockBytes n) (omega (arith, here .0)), given-here, parse-back b n vs read .0, here .0)
 
   pub block-again : (out : List ℕ) → length b ≤ length out → blockOf (writeOf (headerIn b) n v s m out) ≡ b
   block-again out room = rw (written-again out room) (part-sets out 0 b (omega arith))

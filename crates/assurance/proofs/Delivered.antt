@@ -16,7 +16,7 @@ use Rattle.laws.proofs.Bools.{iff-trans}
 use Rattle.laws.proofs.Checks.{none-fails, passed-first}
 use Rattle.laws.proofs.Split.{by-test, by-dec}
 use Rattle.laws.proofs.Tests.{sum-same}
-use Rattle.calendar.specs.Clock.{endedOn}
+use Rattle.calendar.specs.Clock.{secondsOfHalf, halvesOfDay, endedOn}
 use Rattle.block.specs.declared.Answer.{Answer}
 use Rattle.block.specs.Fields.{identIn}
 use Rattle.block.specs.Parse.{fields, parse}
@@ -74,7 +74,7 @@ written-append s p [] later = refl
 written-append s p (e ∷ earlier) later = written-append s (written s p e) earlier later
 
 -- a half-hour of day d has ended where its number is below the running one's
-ended-so : (t d j : ℕ) → j < 48 → (j < endedOn t d) ↔ (48 * d + j < t / 1800)
+ended-so : (t d j : ℕ) → j < halvesOfDay → (j < endedOn t d) ↔ (halvesOfDay * d + j < t / secondsOfHalf)
 ended-so t d j few = (λ l. omega (arith, ended-reached t d), λ l. omega (arith, ended-reached t d))
 
 -- an accepted opening
@@ -285,7 +285,7 @@ module _ (s : SetUp) (x : Store) (cs : List Call) (accepted : setUp s x .answer 
     read-by : (b : List ℕ) → List·Memᴰ b bs → Sender s x cs l first days bs b
     read-by b i = senders (setUp s x .after) cs b .0 (drawn b i)
 
-    told-read : (d j : ℕ) → j < 48 → HalfTold s x cs l first days bs d j ↔ HalfRead s x cs l first days bs d j
+    told-read : (d j : ℕ) → j < halvesOfDay → HalfTold s x cs l first days bs d j ↔ HalfRead s x cs l first days bs d j
     told-read d j few = (
       λ t.
           let r = read-by (t .0) (t .1) in

@@ -17,10 +17,12 @@ use Rattle.laws.proofs.Bools.{iff-trans}
 use Rattle.laws.proofs.Round.{sum-round}
 use Rattle.laws.proofs.Split.{by-dec}
 use Rattle.laws.proofs.Tests.{sum-same}
+use Rattle.quantity.specs.Units.{totalRound, demandRound}
 use Rattle.profile.specs.Profile.{beforeAt, advanceAt}
 use Rattle.store.specs.Class.{daysOf}
 use Rattle.store.specs.Store.{Store}
-use Rattle.registers.specs.Energy.{noEnergy}
+use Rattle.registers.specs.Energy.{noEnergy, rateCount}
+use Rattle.registers.specs.Demand.{countRound}
 use Rattle.recorder.specs.declared.SetUp.{SetUp}
 use Rattle.recorder.specs.declared.Event.{Event}
 use Rattle.recorder.specs.declared.Event.the-variants.{Count, Clock, Off, On, Access, Meter, Reset, Rate, Reverse}
@@ -151,11 +153,11 @@ module _ (s : SetUp) (x : Store) (es : List Event) (accepted : setUp s x .answer
       ∙ ap (λ (n : ℕ). 2 * n)
       (largest-same (unitsOf s c) (unitsIn s x es) (since s x es) (now p - since s x es) (λ q _ _. units-are q))
 
-  rate-told : (i : ℕ) → i < 8 → getD (y .recorder .energy .rates) i noEnergy .0 ≡ countedAt s (suc i) 1 (blankPaper s) es % 1000000000
+  rate-told : (i : ℕ) → i < rateCount → getD (y .recorder .energy .rates) i noEnergy .0 ≡ countedAt s (suc i) 1 (blankPaper s) es % totalRound
   unfolding blankTape
   rate-told i l =
       k .at .energy .rates i l
-      ∙ ap (λ (n : ℕ). n % 1000000000) (register-is s z i es (blankPaper s) (made s) (made-kept s z) ∙ zero-add (countedAt s (suc i) 1 (blankPaper s) es))
+      ∙ ap (λ (n : ℕ). n % totalRound) (register-is s z i es (blankPaper s) (made s) (made-kept s z) ∙ zero-add (countedAt s (suc i) 1 (blankPaper s) es))
 
   module _ (d : ℕ) where
     start-told : past s x es .start d ≡ totalAt s c (48 * d) / 10 % 100000000
@@ -196,9 +198,9 @@ module _ (s : SetUp) (x : Store) (es : List Event) (accepted : setUp s x .answer
     rates = rates-told;
     current = current-told;
     previous = k .at .demand .previous ∙ cleared .previous;
-    cumulative = k .at .demand .cumulative ∙ ap (λ (n : ℕ). n % 1000000) (cleared .cumulative ∙ zero-add _);
+    cumulative = k .at .demand .cumulative ∙ ap (λ (n : ℕ). n % demandRound) (cleared .cumulative ∙ zero-add _);
     date = k .at .demand .reset ∙ cleared .date;
-    count = k .at .demand .count ∙ ap (λ (n : ℕ). n % 100) (cleared .resets ∙ zero-add _);
+    count = k .at .demand .count ∙ ap (λ (n : ℕ). n % countRound) (cleared .resets ∙ zero-add _);
     start = λ d. let e : 48 * d + 0 ≡ 48 * d = omega arith in rw e (start-told d ∙ ap (λ (n : ℕ). n / 10 % 100000000) (total-is (48 * d)));
     value = λ d j. value-told d j ∙ ap (λ (n : ℕ). n / 10 % 10000) (total-is (48 * d + suc j));
     few = λ q. omega (arith, units-are q, k .at .energy .slow q);

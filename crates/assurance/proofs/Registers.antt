@@ -10,6 +10,7 @@ use lib.Dec.{eqb}
 use lib.ListN.{length}
 use borrow.Author.Tests.{eqb-true, eq-eqb, ne-eqb}
 use Rattle.laws.proofs.Split.{by-test, by-dec}
+use Rattle.calendar.specs.Clock.{halvesOfDay}
 use Rattle.recorder.specs.declared.SetUp.{SetUp}
 use Rattle.recorder.specs.declared.Event.{Event}
 use Rattle.recorder.specs.declared.Event.the-variants.{Count, Clock, Off, On, Access, Meter, Reset, Rate, Reverse}
@@ -164,7 +165,7 @@ reset-told s u p same b qs t =
     let from = p .tape .demands .since in
     let peak : peakOf s (p .tape .counts) from (now p) ≡ 2 * largest u from (now p - from) =
     ap (λ (n : ℕ). 2 * n) (largest-same (unitsOf s (p .tape .counts)) u from (now p - from) (λ h lo hi. same h (omega arith))) in
-    let day : today p + 1 ≡ suc (now p / 48) = omega arith in
+    let day : today p + 1 ≡ suc (now p / halvesOfDay) = omega arith in
     record {
       since = t .since;
       previous = t .previous ∙ ap (λ (n : ℕ). lastOr n (found u (now p) qs)) peak;

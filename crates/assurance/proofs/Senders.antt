@@ -10,7 +10,7 @@ use borrow.Author.Tests.{eqb-true, eq-eqb, not-false}
 use Rattle.laws.proofs.Bools.{both}
 use Rattle.laws.proofs.Checks.{NoneFails, none-fails}
 use Rattle.laws.proofs.Split.{by-test}
-use Rattle.laws.proofs.Table.{length-table, table-at}
+use Rattle.laws.proofs.Table.{table-at}
 use Rattle.quantity.specs.Units.{kilowattHours}
 use Rattle.format.specs.Numbers.{binary, numAt, goodAt}
 use Rattle.block.specs.declared.Answer.{Answer}

@@ -1,6 +1,6 @@
 -- The three demands, each as the statement that is proved of it (proofs/Demands.antt): over `setUp`, `step`, `readOf`, `writeOf`, `openOf`, `fileOf` and
 -- `parse`, the definitions that the contracts of the code cite, so that it holds of the code.
-use Prim.Native.Nat.{ℕ, _<_, _≤_}
+use Prim.Native.Nat.{ℕ, _≤_}
 use mathlib.Core.Path.{_≡_}
 use mathlib.Core.Bool.{true}
 use mathlib.Core.List.{List, List·Memᴰ}

@@ -1,6 +1,6 @@
 -- What C may rely on: an answer and what it carries are told apart again, a refusal leaves what was lent, days and dates undo each other.
 -- Assumes nothing.
-use Prim.Native.Nat.{ℕ, _+_, _*_, _/_, _%_, _<_}
+use Prim.Native.Nat.{ℕ, _<_}
 use mathlib.Core.Path.{_≡_, refl}
 use mathlib.Core.List.{List}
 use native.Mathlib.Decide.{ℕ-discrete}
