@@ -9,6 +9,7 @@ use native.Mathlib.Omega.{arith}
 use lib.Dec.{eqb}
 use lib.ListN.{length, take}
 use borrow.Author.Tests.{eqb-true, eqb-false, ne-eqb}
+use Rattle.laws.specs.Checks.{firstFailing}
 use Rattle.laws.proofs.Split.{by-test, by-dec}
 use Rattle.block.specs.declared.Answer.{Answer}
 use Rattle.block.specs.declared.Header.{Header}
@@ -19,9 +20,9 @@ use Rattle.judgement.specs.Days.{daysFrom}
 use Rattle.judgement.specs.Given.{given}
 use Rattle.writer.specs.Send.{writeOf}
 use Rattle.writer.proofs.Sent.{refused-keeps, sent-bytes, sent-reads}
-use Rattle.ledger.specs.Open.{openAnswer, openOf}
-use Rattle.ledger.specs.Asked.{asked, daySummary, noSummary, summaryOf, dayMissing, noMissing, missingOf}
-use Rattle.filing.specs.File.{fileAnswer, fileOf}
+use Rattle.ledger.specs.Open.{openChecks, openAnswer, openOf}
+use Rattle.ledger.specs.Asked.{askedChecks, asked, daySummary, noSummary, summaryOf, dayMissing, noMissing, missingOf}
+use Rattle.filing.specs.File.{fileChecks, fileAnswer, fileOf}
 use Rattle.filing.specs.Differs.{noDifference, differsOf}
 use Rattle.filing.proofs.Differing.{carried-12, carried-other}
 use Rattle.desk.proofs.ForC.{apart, header-stays, differs-stays, identifier-stays, summary-stays, halves-stays, listing-stays, missing-refused as c-missing, flags-refused, window-refused, day-again, date-again}
@@ -31,8 +32,9 @@ use Rattle.recorder.proofs.Kept.{refused, set-up-blank, blank-refused}
 use Rattle.recorder.specs.declared.SetUp.{SetUp}
 use Rattle.recorder.specs.declared.Event.{Event}
 use Rattle.recorder.specs.Recorder.{Mem}
+use Rattle.recorder.specs.Answer.{checks, answerWith, answerOf}
 use Rattle.recorder.specs.Step.{step, run}
-use Rattle.recorder.specs.SetUp.{started, blank, setUp}
+use Rattle.recorder.specs.SetUp.{setUpChecks, setUpWith, started, blank, setUp}
 use Rattle.readout.specs.Read.{headerSent, daysSent, sourceSent, readAnswer, readOf, readBack}
 use Rattle.assurance.specs.Written.{paper}
 use Rattle.assurance.specs.Sent.{daysDue, fieldsDue, blockDue, sentDue}
@@ -79,6 +81,38 @@ summary-refused l day n = by-test (eqb (asked l day) 0) (λ t. absurd (n (rw t))
 missing-refused : (l : List ℕ) (day : ℕ) → (missingOf l day .answer ≡ 0 → ⊥) → missingOf l day ≡ noMissing (missingOf l day .answer)
 unfolding missingOf dayMissing
 missing-refused l day n = by-test (eqb (asked l day) 0) (λ t. absurd (n (rw t))) (λ t. rw t)
+
+-- the answers
+
+set-up-answer : (s : SetUp) (x : Store) → setUp s x .answer ≡ firstFailing (setUpChecks s (length (x .values)) (length (x .starts)) (length (x .marks)))
+unfolding setUp setUpWith
+set-up-answer s x = refl
+
+step-answer : (x : Mem) (e : Event) → step x e .answer ≡ firstFailing (checks (x .recorder) e (length (x .store .values)) (length (x .store .starts)) (length (x .store .marks)))
+unfolding step answerOf answerWith
+step-answer x e = refl
+
+open-answer : (l id : List ℕ) (first days : ℕ) → openOf l id first days .answer ≡ firstFailing (openChecks l id first days)
+unfolding openOf openAnswer
+open-answer l id first days =
+    let a = firstFailing (openChecks l id first days) in
+    by-test (eqb a 0) (λ t. rw t (sym (eqb-true a 0 t))) (λ t. rw t)
+
+file-answer : (l b : List ℕ) → fileOf l b .answer .number ≡ firstFailing (fileChecks l b)
+unfolding fileAnswer
+file-answer l b = answer-is l b
+
+summary-answer : (l : List ℕ) (day : ℕ) → summaryOf l day .answer ≡ firstFailing (askedChecks l day)
+unfolding summaryOf daySummary asked
+summary-answer l day =
+    let a = firstFailing (askedChecks l day) in
+    by-test (eqb a 0) (λ t. rw t (sym (eqb-true a 0 t))) (λ t. rw t)
+
+missing-answer : (l : List ℕ) (day : ℕ) → missingOf l day .answer ≡ firstFailing (askedChecks l day)
+unfolding missingOf dayMissing asked
+missing-answer l day =
+    let a = firstFailing (askedChecks l day) in
+    by-test (eqb a 0) (λ t. rw t (sym (eqb-true a 0 t))) (λ t. rw t)
 
 differs-refused : (l b : List ℕ) → (differsOf l b .number ≡ 0 → ⊥) → differsOf l b ≡ noDifference (fileOf l b .answer)
 unfolding differsOf fileOf
@@ -146,9 +180,15 @@ demand-1 = record {
   blank-read = blank-read;
   step-carries = step-carries;
   set-up-carries = set-up-carries;
+  set-up-answer = set-up-answer;
+  step-answer = step-answer;
   read-answer = read-answer;
   write-answer = write-answer;
   refuses = λ n vs. (accepted-reads n vs, reads-accepted n vs);
+  open-answer = open-answer;
+  file-answer = file-answer;
+  summary-answer = summary-answer;
+  missing-answer = missing-answer;
   causes = causes;
   found = differs-found;
 }
@@ -182,9 +222,9 @@ demand-2 = record {
   header = λ asked x out twelve e. registers-read asked x out e twelve;
   parses = parses;
   writes = writes;
-  rewrites = λ b n vs out e room. written-again b n vs e out room;
   back = accepted-reads;
   again = λ b n vs e. parse-back b n vs e .0;
+  rewrites = λ b n vs out e room. written-again b n vs e out room;
 }
 
 -- ---- demand 3

@@ -1,5 +1,5 @@
--- The three demands, each as the statement that is proved of it (proofs/Demands.antt): over `setUp`, `step`, `readOf`, `writeOf`, `openOf`, `fileOf` and
--- `parse`, the definitions that the contracts of the code cite, so that it holds of the code.
+-- The three demands, each as the statement that is proved of it (proofs/Demands.antt): over `setUp`, `step`, `readOf`, `writeOf`, `openOf`, `fileOf`, `parse`
+-- and the others named below, the definitions that the contracts of the code cite, so that it holds of the code.
 use Prim.Native.Nat.{ℕ, _≤_}
 use mathlib.Core.Path.{_≡_}
 use mathlib.Core.Bool.{true}
@@ -19,17 +19,18 @@ use Rattle.judgement.specs.Given.{given}
 use Rattle.writer.specs.Send.{sent, sendOf, writeOf}
 use Rattle.fields.specs.Views.{headerIn}
 use Rattle.ledger.specs.Judged.{judged}
-use Rattle.ledger.specs.Open.{openOf}
-use Rattle.ledger.specs.Asked.{noSummary, summaryOf, noMissing, missingOf}
-use Rattle.filing.specs.File.{fileOf}
+use Rattle.ledger.specs.Open.{openChecks, openOf}
+use Rattle.ledger.specs.Asked.{askedChecks, noSummary, summaryOf, noMissing, missingOf}
+use Rattle.filing.specs.File.{fileChecks, fileOf}
 use Rattle.filing.specs.Differs.{noDifference, differsOf}
 use Rattle.store.specs.Store.{Store}
 use Rattle.registers.specs.Energy.{rateCount}
 use Rattle.recorder.specs.declared.Event.{Event}
 use Rattle.recorder.specs.declared.SetUp.{SetUp}
 use Rattle.recorder.specs.Recorder.{Mem}
+use Rattle.recorder.specs.Answer.{checks}
 use Rattle.recorder.specs.Step.{step, run}
-use Rattle.recorder.specs.SetUp.{blank, setUp}
+use Rattle.recorder.specs.SetUp.{setUpChecks, blank, setUp}
 use Rattle.readout.specs.Read.{readOf, readBack}
 use Rattle.assurance.specs.Written.{paper}
 use Rattle.assurance.specs.Sent.{daysDue, fieldsDue, blockDue, sentDue}
@@ -41,7 +42,7 @@ use Rattle.assurance.specs.ForC.{ForC}
 use Rattle.assurance.specs.Again.{valuesOf, startsOf, wordsOf}
 use Rattle.assurance.specs.Delivered.{Drawn, Holds}
 
--- Demand 1: whatever is given, a refusal changes nothing, and is given only with cause. (That every call answers, and by the table of docs/ANSWERS.md, is its contract, which asks nothing.)
+-- Demand 1: whatever is given, a refusal changes nothing, and is given only with cause. (That every call answers is its contract, which asks nothing.)
 pub record Demand1 : Type 0 where
   -- a refusal hands back the recorder given, and store, ledger and output hold the bytes they held: set-up, events, reads, the writer of given days and of the
   -- store's, opening, filing. A refused set-up gives the blank recorder; a read hands back the recorder that it was given, refused or not
@@ -65,11 +66,19 @@ pub record Demand1 : Type 0 where
   -- neither an event nor a set-up carries anything
   pub step-carries : (x : Mem) (e : Event) → step x e .carried ≡ 0
   pub set-up-carries : (s : SetUp) (x : Store) → setUp s x .carried ≡ 0
-  -- a read and the writer refuse exactly where the rules say so: the block's own 5 where store days to be sent are out of range, or where the reader would refuse it
+  -- every call answers by the table (docs/ANSWERS.md): its answer is that of the first check that fails, in the table's order. (The reader's is `parse`.) A read and
+  -- the writer refuse the block itself exactly where the rules say so: 5 where store days to be sent are out of range, or where the reader would refuse it
+  pub set-up-answer : (s : SetUp) (x : Store) → setUp s x .answer ≡ firstFailing (setUpChecks s (length (x .values)) (length (x .starts)) (length (x .marks)))
+  pub step-answer : (x : Mem) (e : Event)
+      → step x e .answer ≡ firstFailing (checks (x .recorder) e (length (x .store .values)) (length (x .store .starts)) (length (x .store .marks)))
   pub read-answer : (asked : ℕ) (x : Mem) (out : List ℕ) → readOf asked x out .answer .number ≡ firstFailing (readRefusals asked x (length out))
   pub write-answer : (h : Header) (n : ℕ) (v s m out : List ℕ) → length (h .rates) ≡ rateCount
       → writeOf h n v s m out .answer .number ≡ firstFailing (writeRefusals h n v s m (length out))
   pub refuses : (n : ℕ) (vs : List ℕ) → (acceptable n vs ≡ true) ↔ (parse (renderBlock n vs) ≡ fields n vs)
+  pub open-answer : (l id : List ℕ) (first days : ℕ) → openOf l id first days .answer ≡ firstFailing (openChecks l id first days)
+  pub file-answer : (l b : List ℕ) → fileOf l b .answer .number ≡ firstFailing (fileChecks l b)
+  pub summary-answer : (l : List ℕ) (day : ℕ) → summaryOf l day .answer ≡ firstFailing (askedChecks l day)
+  pub missing-answer : (l : List ℕ) (day : ℕ) → missingOf l day .answer ≡ firstFailing (askedChecks l day)
   -- a block that the reader takes is refused by a good ledger for another identifier and for what differs, and for nothing else; the second is what `differs` says
   pub causes : (l b : List ℕ) (n : ℕ) (vs : List ℕ) → judged l ≡ 0 → parse b ≡ fields n vs → Causes l b
   pub found : (l b : List ℕ) → ((differsOf l b .number ≡ 0) × (differsOf l b .carried ≡ 1)) ↔ (fileOf l b .answer .number ≡ 12)
@@ -90,14 +99,14 @@ pub record Demand2 : Type 0 where
   pub parses : (s : SetUp) (x : Store) (es : List Event) (asked : ℕ) → setUp s x .answer ≡ 0
       → parse (blockDue s (paper s es) asked) ≡ fields (daysDue s (paper s es) asked) (fieldsDue s (paper s es) asked)
   -- a block written from given fields reads back as these
-  pub writes : (h : Header) (n : ℕ) (v s m out : List ℕ) → length (h .rates) ≡ 8 → writeOf h n v s m out .answer .number ≡ 0
+  pub writes : (h : Header) (n : ℕ) (v s m out : List ℕ) → length (h .rates) ≡ rateCount → writeOf h n v s m out .answer .number ≡ 0
       → parse (blockOf (writeOf h n v s m out)) ≡ fields n (given h n (daysFrom (lent n) v s m))
-  -- one that the reader takes, its header and days as `fields` gives them handed to the writer, is answered 0 with the very same bytes, and no other byte moves
-  pub rewrites : (b : List ℕ) (n : ℕ) (vs out : List ℕ) → parse b ≡ fields n vs → length b ≤ length out
-      → writeOf (headerIn b) n (valuesOf b n) (startsOf b n) (wordsOf b n) out ≡ sent (sets out 0 b) (answer 0 (length b))
   -- so does any block of acceptable fields; and one that is read, written again from its fields, is the same bytes
   pub back : (n : ℕ) (vs : List ℕ) → acceptable n vs ≡ true → parse (renderBlock n vs) ≡ fields n vs
   pub again : (b : List ℕ) (n : ℕ) (vs : List ℕ) → parse b ≡ fields n vs → renderBlock n vs ≡ b
+  -- by the writer itself: its header and days, as `fields` gives them, are answered 0 with the very same bytes, and no other byte of the output moves
+  pub rewrites : (b : List ℕ) (n : ℕ) (vs out : List ℕ) → parse b ≡ fields n vs → length b ≤ length out
+      → writeOf (headerIn b) n (valuesOf b n) (startsOf b n) (wordsOf b n) out ≡ sent (sets out 0 b) (answer 0 (length b))
 
 -- Demand 3: for every accepted set-up, every run of events and reads, every fresh ledger of that meter, and every list of blocks of the run's reads, any left
 -- out, any repeated, in any order: filed one after another, they are held exactly as told, as it happened; the rest is missing; and so on (Delivered, `Holds`).
