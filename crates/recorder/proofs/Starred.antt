@@ -16,10 +16,10 @@ use Rattle.recorder.specs.Boundary.{ended, closeOne, advanceTo}
 use Rattle.recorder.specs.Effect.{flagToday, flagFrom, after}
 use Rattle.recorder.specs.Answer.{wrongPower, eventAnswer, answerWith, answerOf}
 use Rattle.recorder.specs.Step.{step, run}
-use Rattle.recorder.specs.SetUp.{setUpWith, started, fresh, made, setUp}
+use Rattle.recorder.specs.SetUp.{setUpWith, started, fresh, blank, made, setUp}
 use Rattle.recorder.specs.Stored.{advanced}
 use Rattle.recorder.specs.Cases.{Case, cases}
 
 pub starred : map (λ (c : Case). c .given) cases ≡ map (λ (c : Case). c .due) cases
-unfolding each allBelow leapDay months monthLength realDate identByte identTest identOk taken ratesOk addedOf unitsWith energyCounted pushAt closed opened turned flagAt flagged filled begun inRange ended closeOne advanceTo flagToday flagFrom after wrongPower eventAnswer answerWith answerOf step run setUpWith started fresh made setUp endedOn advanced
+unfolding each allBelow leapDay months monthLength realDate identByte identTest identOk taken ratesOk addedOf unitsWith energyCounted pushAt closed opened turned flagAt flagged filled begun inRange ended closeOne advanceTo flagToday flagFrom after wrongPower eventAnswer answerWith answerOf step run setUpWith started fresh blank made setUp endedOn advanced
 starred = refl

@@ -1,5 +1,6 @@
--- The starred cases of the table "Reckoned by hand" of docs/RULES.md that concern the recorder, its outage of three days, the daily flags, and answers 1, 6 and 2: for each what the definitions give,
--- and what the rules say.
+-- The starred cases of the table "Reckoned by hand" of docs/RULES.md that concern the recorder, its outage of three days, the daily flags, and answers 1, 6 and 2; then the days of the classes
+-- (docs/RULES.md, "Set-up") and the order of the answers to set-up and events (docs/RULES.md, "Checked in this order"), by inputs that two checks refuse. For each what the
+-- definitions give, and what is due.
 use Prim.Native.Nat.{ℕ}
 use mathlib.Core.List.{List, [], _∷_, map}
 use lib.ListN.{replicate}
@@ -8,12 +9,15 @@ use Rattle.calendar.specs.Clock.{endedOn}
 use Rattle.laws.specs.Bits.{bit}
 use Rattle.quantity.specs.Units.{wattHours, units, centiKilowatts, readingOf, demandOf}
 use Rattle.registers.specs.Energy.{pulsesOf}
-use Rattle.store.specs.declared.Class.the-variants.{A}
-use Rattle.store.specs.Store.{store}
+use Rattle.store.specs.declared.Class.{Class}
+use Rattle.store.specs.declared.Class.the-variants.{A, B, C, D, Blank}
+use Rattle.store.specs.Class.{daysOf}
+use Rattle.store.specs.Store.{Store, store}
 use Rattle.recorder.specs.Recorder.{Mem, Event, Count, Clock, Off, On, Access, Meter, Reset, Rate, Reverse, with, withDemand}
 use Rattle.recorder.specs.Answer.{answerOf}
 use Rattle.recorder.specs.Step.{step, run}
-use Rattle.recorder.specs.SetUp.{given, setUp}
+use Rattle.recorder.specs.Effect.{rateIs}
+use Rattle.recorder.specs.SetUp.{given, blank, setUp}
 use Rattle.recorder.specs.Stored.{valueOf, flagsWord, advanced}
 
 -- a row of the table
@@ -21,11 +25,26 @@ pub record Case : Type 0 where
   pub given : List ℕ
   pub due : List ℕ
 
+-- ABCX24000017, and with a small letter ABCx24000017
+abbrev pub ident : List ℕ
+ident = 65 ∷ 66 ∷ 67 ∷ 88 ∷ 50 ∷ 52 ∷ 48 ∷ 48 ∷ 48 ∷ 48 ∷ 49 ∷ 55 ∷ []
+
+abbrev pub small : List ℕ
+small = 65 ∷ 66 ∷ 67 ∷ 120 ∷ 50 ∷ 52 ∷ 48 ∷ 48 ∷ 48 ∷ 48 ∷ 49 ∷ 55 ∷ []
+
+-- a store of zeros: so many values, starts and words of marks; that of class a, and one value less
+abbrev pub lent : ℕ → ℕ → ℕ → Store
+lent values starts marks = store (replicate values 0) (replicate starts 0) (replicate marks 0)
+
+abbrev pub full : Store
+full = lent 960 20 60
+
+abbrev pub short : Store
+short = lent 959 20 60
+
 -- class a, set up at a time with this total, counter value and weight, lent a store of zeros
 abbrev pub meter : ℕ → ℕ → ℕ → ℕ → Mem
-meter time total last weight =
-    let id : List ℕ = 65 ∷ 66 ∷ 67 ∷ 88 ∷ 50 ∷ 52 ∷ 48 ∷ 48 ∷ 48 ∷ 48 ∷ 49 ∷ 55 ∷ [] in
-    setUp (given id A (wattHours weight) time (wattHours total) last) (store (replicate 960 0) (replicate 20 0) (replicate 60 0)) .after
+meter time total last weight = setUp (given ident A (wattHours weight) time (wattHours total) last) full .after
 
 -- the same with demands and a reset count
 abbrev pub demands : ℕ → ℕ → ℕ → Mem
@@ -44,6 +63,17 @@ reading x = readingOf (x .recorder .energy .total) .0
 
 abbrev pub next : Mem → Event → Mem
 next x e = step x e .after
+
+-- the answer to a set-up: identifier, class, weight, start time, start total, and the store
+abbrev pub begins : List ℕ → Class → ℕ → ℕ → ℕ → Store → ℕ
+begins id class weight time total x = setUp (given id class (wattHours weight) time (wattHours total) 0) x .answer
+
+-- a recorder with a field out of range, its active rate 9; a recorder with another store
+abbrev pub outOfRange : Mem → Mem
+outOfRange x = with x (rateIs 9 (x .recorder))
+
+abbrev pub beside : Mem → Store → Mem
+beside x s = record { recorder = x .recorder; store = s }
 
 -- one event of each kind
 abbrev pub kinds : List Event
@@ -100,4 +130,41 @@ cases =
     ∷ record { given = answers (meter 0 0 0 1) (Rate 0 ∷ Rate 1 ∷ Rate 8 ∷ Rate 9 ∷ []); due = 6 ∷ 0 ∷ 0 ∷ 6 ∷ [] }
     ∷ record { given = answers (meter 5 0 0 1) (Clock 3155759999 ∷ Clock 3155760000 ∷ []); due = 0 ∷ 2 ∷ [] }
     ∷ record { given = answers (next (meter 5 0 0 1) Off) (Rate 9 ∷ Clock 4 ∷ Count 1000000 ∷ On 4 ∷ []); due = 1 ∷ 1 ∷ 1 ∷ 2 ∷ [] }
+    -- classes a, b, c, d: the days held
+    ∷ record { given = map daysOf (A ∷ B ∷ C ∷ D ∷ []); due = 20 ∷ 100 ∷ 250 ∷ 450 ∷ [] }
+    -- and the store's lengths, of each day 48 values, a start and 3 words of marks
+    ∷ record {
+      given = begins ident A 1 0 0 (lent 960 20 60) ∷ begins ident B 1 0 0 (lent 4800 100 300) ∷ begins ident C 1 0 0 (lent 12000 250 750)
+          ∷ begins ident D 1 0 0 (lent 21600 450 1350) ∷ [];
+      due = 0 ∷ 0 ∷ 0 ∷ 0 ∷ [];
+    }
+    -- one less and one more of each
+    ∷ record {
+      given = map (begins ident A 1 0 0) (lent 959 20 60 ∷ lent 961 20 60 ∷ lent 960 19 60 ∷ lent 960 21 60 ∷ lent 960 20 59 ∷ lent 960 20 61 ∷ []);
+      due = replicate 6 4;
+    }
+    -- set-up values at their ends: weight 0, 1, 100, 101
+    ∷ record { given = begins ident A 0 0 0 full ∷ begins ident A 1 0 0 full ∷ begins ident A 100 0 0 full ∷ begins ident A 101 0 0 full ∷ []; due = 6 ∷ 0 ∷ 0 ∷ 6 ∷ [] }
+    -- start time: the last second of 2099 and the next
+    ∷ record { given = begins ident A 1 3155759999 0 full ∷ begins ident A 1 3155760000 0 full ∷ []; due = 0 ∷ 6 ∷ [] }
+    -- start total 999,999,999 and 1,000,000,000
+    ∷ record { given = begins ident A 1 0 999999999 full ∷ begins ident A 1 0 1000000000 full ∷ []; due = 0 ∷ 6 ∷ [] }
+    -- a small letter in the identifier; no real class, with the store of no days
+    ∷ record { given = begins small A 1 0 0 full ∷ begins ident Blank 1 0 0 (lent 0 0 0) ∷ []; due = 6 ∷ 6 ∷ [] }
+    -- set-up, 6 before 4: each of these with a store of another length; and with that alone
+    ∷ record {
+      given = begins small A 1 0 0 short ∷ begins ident Blank 1 0 0 short ∷ begins ident A 0 0 0 short ∷ begins ident A 101 0 0 short
+          ∷ begins ident A 1 3155760000 0 short ∷ begins ident A 1 0 1000000000 short ∷ begins ident A 1 0 0 short ∷ [];
+      due = 6 ∷ 6 ∷ 6 ∷ 6 ∷ 6 ∷ 6 ∷ 4 ∷ [];
+    }
+    -- each kind of event. No real class, 5 before 4: the blank recorder with a store of class a, of no class, of no days
+    ∷ record { given = answers (record { recorder = blank; store = full }) kinds; due = replicate 9 5 }
+    ∷ record { given = answers (record { recorder = blank; store = short }) kinds; due = replicate 9 5 }
+    ∷ record { given = answers (record { recorder = blank; store = lent 0 0 0 }) kinds; due = replicate 9 5 }
+    -- 4 before 5: a store of another length, and a field out of range too
+    ∷ record { given = answers (beside (meter 0 0 0 1) short) kinds; due = replicate 9 4 }
+    ∷ record { given = answers (beside (outOfRange (meter 0 0 0 1)) short) kinds; due = replicate 9 4 }
+    -- 5 before 1: a field out of range, while on, where On would be 1, and while off, where any other would
+    ∷ record { given = answers (outOfRange (meter 0 0 0 1)) kinds; due = replicate 9 5 }
+    ∷ record { given = answers (outOfRange (next (meter 0 0 0 1) Off)) kinds; due = replicate 9 5 }
     ∷ []
