@@ -25,4 +25,5 @@ pub mod Delivered
 pub mod Causes
 pub mod Refusals
 pub mod Again
+pub mod Opens
 pub mod Demands
