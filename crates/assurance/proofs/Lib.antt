@@ -26,4 +26,5 @@ pub mod Causes
 pub mod Refusals
 pub mod Again
 pub mod Opens
+pub mod Orders
 pub mod Demands

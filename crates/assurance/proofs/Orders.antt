@@ -1,0 +1,45 @@
+-- The orders: one statement over one list.
+-- Assumes nothing.
+use mathlib.Core.Path.{_≡_, refl, sym, _∙_}
+use mathlib.Core.List.{List, _++_, map, map-append}
+use Rattle.recorder.specs.Cases.{Case}
+use Rattle.assurance.proofs.Opens.{opens}
+use Rattle.assurance.specs.Orders.{reading, writing, parsing, opening, filing, comparing, asking, orders}
+
+-- the rows of each call by themselves, since one computation of all would be too long, and these joined
+record Met (cs : List Case) : Type 0 where
+  is : map (λ (c : Case). c .given) cs ≡ map (λ (c : Case). c .due) cs
+
+both : {a b : List Case} → Met a → Met b → Met (a ++ b)
+both {a} {b} p q = record { is = map-append (λ (c : Case). c .given) a b ∙ (λ i. p .is i ++ q .is i) ∙ sym (map-append (λ (c : Case). c .due) a b) }
+
+reading-met : Met reading
+unfolding opens
+reading-met = record { is = refl }
+
+writing-met : Met writing
+unfolding opens
+writing-met = record { is = refl }
+
+parsing-met : Met parsing
+unfolding opens
+parsing-met = record { is = refl }
+
+opening-met : Met opening
+unfolding opens
+opening-met = record { is = refl }
+
+filing-met : Met filing
+unfolding opens
+filing-met = record { is = refl }
+
+comparing-met : Met comparing
+unfolding opens
+comparing-met = record { is = refl }
+
+asking-met : Met asking
+unfolding opens
+asking-met = record { is = refl }
+
+pub in-order : map (λ (c : Case). c .given) orders ≡ map (λ (c : Case). c .due) orders
+in-order = both reading-met (both writing-met (both parsing-met (both opening-met (both filing-met (both comparing-met asking-met))))) .is
