@@ -25,6 +25,4 @@ pub mod Delivered
 pub mod Causes
 pub mod Refusals
 pub mod Again
-pub mod Opens
-pub mod Orders
 pub mod Demands

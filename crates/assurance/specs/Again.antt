@@ -5,6 +5,7 @@ use mathlib.Core.List.{List}
 use lib.Dec.{eqb}
 use Rattle.laws.specs.Table.{table}
 use Rattle.calendar.specs.Clock.{halvesOfDay}
+use Rattle.store.specs.Class.{dayWords}
 use Rattle.fields.specs.Views.{dayGiven, halfGiven}
 
 unfoldable pub valuesOf : List ℕ → ℕ → List ℕ
@@ -15,6 +16,6 @@ startsOf b n = table n (λ i. dayGiven b i .start .0)
 
 unfoldable pub wordsOf : List ℕ → ℕ → List ℕ
 wordsOf b n =
-    table (n * 3) (λ q.
-    let day = dayGiven b (q / 3) in
-    cond (eqb (q % 3) 0) (day .reverse) (cond (eqb (q % 3) 1) (day .level2) (day .flags)))
+    table (n * dayWords) (λ q.
+    let day = dayGiven b (q / dayWords) in
+    cond (eqb (q % dayWords) 0) (day .reverse) (cond (eqb (q % dayWords) 1) (day .level2) (day .flags)))

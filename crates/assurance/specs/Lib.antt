@@ -1,5 +1,5 @@
 -- Paper: what happened, without end. Written: what each event writes on it. Meaning: what is said of a list of events. Sent: what a read sends.
--- Life, Run, Delivered, Causes, Refusals, ForC, Again: what the demands say of each. Orders: cases of the order of answers. Demands: the three demands.
+-- Life, Run, Delivered, Causes, Refusals, ForC, Again: what the demands say of each. Demands: the three demands.
 pub mod Paper
 pub mod Written
 pub mod Meaning
@@ -11,5 +11,4 @@ pub mod Causes
 pub mod Refusals
 pub mod ForC
 pub mod Again
-pub mod Orders
 pub mod Demands

@@ -1,2 +1,4 @@
+pub mod Opens
 pub mod Computed
+pub mod Orders
 pub mod Worked

@@ -1,2 +1,3 @@
--- One life worked through.
+-- Example: one life worked through. Orders: cases of the order of answers.
 pub mod Example
+pub mod Orders

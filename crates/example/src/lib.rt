@@ -1,1 +1,2 @@
-// One life worked through, from set-up to the ledger: specs/ says what happens and what the rules say of it, proofs/ computes it, and there is no code.
+// What is worked through by computing: one life, from set-up to the ledger, and cases of the order of answers. specs/ says what happens and what the rules say of it, proofs/ computes it, and
+// there is no code.

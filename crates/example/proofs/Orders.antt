@@ -3,8 +3,8 @@
 use mathlib.Core.Path.{_≡_, refl, sym, _∙_}
 use mathlib.Core.List.{List, _++_, map, map-append}
 use Rattle.recorder.specs.Cases.{Case}
-use Rattle.assurance.proofs.Opens.{opens}
-use Rattle.assurance.specs.Orders.{reading, writing, parsing, opening, filing, comparing, asking, orders}
+use Rattle.example.proofs.Opens.{opens}
+use Rattle.example.specs.Orders.{reading, writing, parsing, opening, filing, comparing, asking, orders}
 
 -- the rows of each call by themselves, since one computation of all would be too long, and these joined
 record Met (cs : List Case) : Type 0 where
