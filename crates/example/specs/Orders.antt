@@ -34,6 +34,10 @@ good = meter 0 0 0 1
 abbrev pub badDay : Mem → Mem
 badDay x = beside x (store (replicate 960 0) (replicate 20 0) (0 ∷ 0 ∷ 1 ∷ replicate 57 0))
 
+-- the same though the block would be right: 49 bits as its reverse marks, of which none is sent, since no half-hour has ended
+abbrev pub badMark : Mem → Mem
+badMark x = beside x (store (replicate 960 0) (replicate 20 0) (281474976710656 ∷ replicate 59 0))
+
 -- a reset count of 1 without a reset date: both in range, but no block that the reader takes
 abbrev pub oneReset : Demand → Demand
 oneReset d = record { current = d .current; previous = d .previous; cumulative = d .cumulative; reset = 0; count = 1 }
@@ -133,6 +137,8 @@ reading =
     ∷ record { given = told (reads (off (badDay good)) 1 331 ∷ reads (off (badBlock good)) 0 112 ∷ []); due = 1 ∷ 0 ∷ 1 ∷ 0 ∷ [] }
     -- that 5 before 7: a stored day out of range; and a byte too few
     ∷ record { given = told (reads (badDay good) 1 331 ∷ reads (badDay good) 1 330 ∷ []); due = 5 ∷ 0 ∷ 5 ∷ 0 ∷ [] }
+    -- 5 for a stored day out of range, though the reader would take the block
+    ∷ record { given = told (reads (badMark good) 1 331 ∷ []); due = 5 ∷ 0 ∷ [] }
     -- a block that the reader would refuse; and a byte too few
     ∷ record { given = told (reads (badBlock good) 0 112 ∷ reads (badBlock good) 0 111 ∷ []); due = 5 ∷ 0 ∷ 5 ∷ 0 ∷ [] }
     -- 7: a byte too few, of one day and of none
