@@ -35,7 +35,7 @@ use Rattle.recorder.specs.Recorder.{Mem}
 use Rattle.recorder.specs.Answer.{checks, answerWith, answerOf}
 use Rattle.recorder.specs.Step.{step, run}
 use Rattle.recorder.specs.SetUp.{setUpChecks, setUpWith, started, blank, setUp}
-use Rattle.readout.specs.Read.{headerSent, daysSent, sourceSent, readAnswer, readOf, readBack}
+use Rattle.readout.specs.Read.{headerSent, daysSent, sourceSent, readAnswer, readOf, readDone, readBack}
 use Rattle.assurance.specs.Written.{paper}
 use Rattle.assurance.specs.Sent.{daysDue, fieldsDue, blockDue, sentDue}
 use Rattle.assurance.specs.Run.{Call, runAll, eventsOf, blockOf}
@@ -70,7 +70,8 @@ open-refused l id first days n =
     (λ t. absurd (n (rw t)))
     (λ t. rw t)
 
-hands : (asked : ℕ) (x : Mem) (out : List ℕ) → readBack asked x out .handed .recorder ≡ x .recorder
+hands : (asked : ℕ) (x : Mem) (out : List ℕ) → let a = readOf asked x out .answer in
+    readBack asked x out ≡ readDone (record { recorder = x .recorder; answer = a .number; carried = a .carried }) (readOf asked x out .out)
 unfolding readBack
 hands asked x out = refl
 
@@ -123,8 +124,8 @@ differs-refused l b n =
     let other = carried-other l b (eqb-false (fileAnswer l b) 12 t) .0 in
     rw (t, ne-eqb (fileAnswer l b) 0 (λ z. n (other ∙ z))))
 
-differs-found : (l b : List ℕ) → ((differsOf l b .number ≡ 0) × (differsOf l b .carried ≡ 1)) ↔ (fileOf l b .answer .number ≡ 12)
-differs-found l b =
+differs-12 : (l b : List ℕ) → ((differsOf l b .number ≡ 0) × (differsOf l b .carried ≡ 1)) ↔ (fileOf l b .answer .number ≡ 12)
+differs-12 l b =
     by-dec (ℕ-discrete (fileAnswer l b) 12)
     (λ e. ((λ _. answer-is l b ∙ e), (λ _. carried-12 l b e)))
     (λ e.
@@ -190,7 +191,7 @@ demand-1 = record {
   summary-answer = summary-answer;
   missing-answer = missing-answer;
   causes = causes;
-  found = differs-found;
+  differs-12 = differs-12;
 }
 
 -- ---- demand 2

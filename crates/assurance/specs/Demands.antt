@@ -31,7 +31,7 @@ use Rattle.recorder.specs.Recorder.{Mem}
 use Rattle.recorder.specs.Answer.{checks}
 use Rattle.recorder.specs.Step.{step, run}
 use Rattle.recorder.specs.SetUp.{setUpChecks, blank, setUp}
-use Rattle.readout.specs.Read.{readOf, readBack}
+use Rattle.readout.specs.Read.{readOf, readDone, readBack}
 use Rattle.assurance.specs.Written.{paper}
 use Rattle.assurance.specs.Sent.{daysDue, fieldsDue, blockDue, sentDue}
 use Rattle.assurance.specs.Run.{Call, runAll, eventsOf, blockOf, blocksIn, ReadIn, Registers}
@@ -45,11 +45,12 @@ use Rattle.assurance.specs.Delivered.{Drawn, Holds}
 -- Demand 1: whatever is given, a refusal changes nothing, and is given only with cause. (That every call answers is its contract, which asks nothing.)
 pub record Demand1 : Type 0 where
   -- a refusal hands back the recorder given, and store, ledger and output hold the bytes they held: set-up, events, reads, the writer of given days and of the
-  -- store's, opening, filing. A refused set-up gives the blank recorder; a read hands back the recorder that it was given, refused or not
+  -- store's, opening, filing. A refused set-up gives the blank recorder; a read, `readOf`, hands back the recorder that it was given, refused or not
   pub set-up : (s : SetUp) (x : Store) → Refused (setUp s x .answer) → setUp s x .after ≡ record { recorder = blank; store = x }
   pub steps : (x : Mem) (e : Event) → Refused (step x e .answer) → step x e .after ≡ x
   pub reads : (asked : ℕ) (x : Mem) (out : List ℕ) → Refused (readOf asked x out .answer .number) → readOf asked x out .out ≡ out
-  pub hands : (asked : ℕ) (x : Mem) (out : List ℕ) → readBack asked x out .handed .recorder ≡ x .recorder
+  pub hands : (asked : ℕ) (x : Mem) (out : List ℕ) → let a = readOf asked x out .answer in
+      readBack asked x out ≡ readDone (record { recorder = x .recorder; answer = a .number; carried = a .carried }) (readOf asked x out .out)
   pub writes : (h : Header) (n : ℕ) (v s m out : List ℕ) → Refused (writeOf h n v s m out .answer .number) → writeOf h n v s m out .out ≡ out
   pub sends : (h : Header) (n : ℕ) (from : Source) (v s m out : List ℕ) → Refused (sendOf h n from v s m out .answer .number) → sendOf h n from v s m out .out ≡ out
   pub opens : (l id : List ℕ) (first days : ℕ) → Refused (openOf l id first days .answer) → openOf l id first days .ledger ≡ l
@@ -81,7 +82,7 @@ pub record Demand1 : Type 0 where
   pub missing-answer : (l : List ℕ) (day : ℕ) → missingOf l day .answer ≡ firstFailing (askedChecks l day)
   -- a block that the reader takes is refused by a good ledger for another identifier and for what differs, and for nothing else; the second is what `differs` says
   pub causes : (l b : List ℕ) (n : ℕ) (vs : List ℕ) → judged l ≡ 0 → parse b ≡ fields n vs → Causes l b
-  pub found : (l b : List ℕ) → ((differsOf l b .number ≡ 0) × (differsOf l b .carried ≡ 1)) ↔ (fileOf l b .answer .number ≡ 12)
+  pub differs-12 : (l b : List ℕ) → ((differsOf l b .number ≡ 0) × (differsOf l b .carried ≡ 1)) ↔ (fileOf l b .answer .number ≡ 12)
 
 -- Demand 2: values, event by event and at every point of every life, and the block both ways.
 pub record Demand2 : Type 0 where
