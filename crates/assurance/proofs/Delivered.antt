@@ -1,6 +1,6 @@
 -- Demand 3: whatever is drawn from a run's blocks and filed, the ledger holds exactly what was told, as it happened.
 -- Assumes nothing.
-use Prim.Native.Nat.{ℕ, _+_, _-_, _*_, _/_, _<_, _≤_}
+use Prim.Native.Nat.{ℕ, _+_, _-_, _*_, _/_, _<_, _≤_, min}
 use mathlib.Core.Path.{_≡_, refl, sym, ap, _∙_, subst, fun-ext}
 use mathlib.Core.Logic.{_↔_, ⊎-elim}
 use native.Mathlib.Decide.{decLt}
@@ -22,7 +22,7 @@ use Rattle.block.specs.Fields.{identIn}
 use Rattle.block.specs.Parse.{fields, parse}
 use Rattle.format.specs.Numbers.{binary, numAt}
 use Rattle.days.specs.Day.{History, Day, count}
-use Rattle.days.specs.View.{Honest}
+use Rattle.days.specs.View.{Carries, Honest}
 use Rattle.days.specs.Desk.{Desk, Filed, dayIn, fresh, heldIn}
 use Rattle.days.specs.Desk as desk
 use Rattle.days.specs.Told.{AllHonest, untaken}
@@ -54,7 +54,7 @@ use Rattle.assurance.specs.Paper.{Counts, Paper, totalAt, unitsOf, histo
 use Rattle.assurance.specs.Written.{written, blankPaper, writtenAll, paper}
 use Rattle.assurance.specs.Sent.{daysDue, fieldsDue}
 use Rattle.assurance.specs.Run.{Call, eventsOf, blocksIn}
-use Rattle.assurance.specs.Delivered.{answersAll, carriedAll, heldOn, past, counted, Drawn, Summed, opened, filed, DayTold, HalfTold, Sender, whenRead, Gave, HalfRead, DayHeld, Holds}
+use Rattle.assurance.specs.Delivered.{answersAll, carriedAll, heldOn, past, counted, Drawn, Summed, opened, filed, DayTold, HalfTold, Sender, whenRead, Gave, DayRead, HalfRead, DayHeld, Holds}
 use Rattle.assurance.proofs.Kept.{Given, Kept}
 use Rattle.assurance.proofs.Start.{given, made-kept}
 use Rattle.assurance.proofs.Run.{kept, run-kept}
@@ -64,7 +64,7 @@ use Rattle.assurance.proofs.Summed.{summed}
 use Rattle.assurance.proofs.Reading.{block-reads}
 use Rattle.assurance.proofs.Honest.{ident-due, honest}
 use Rattle.assurance.proofs.Blocks.{SentAfter, sent-after}
-use Rattle.assurance.proofs.Senders.{senders}
+use Rattle.assurance.proofs.Senders.{senders, says-read}
 use Rattle.assurance.proofs.Sending.{ended-reached}
 
 -- a life goes on
@@ -285,16 +285,37 @@ module _ (s : SetUp) (x : Store) (cs : List Call) (accepted : setUp s x .answer 
     read-by : (b : List ℕ) → List·Memᴰ b bs → Sender s x cs l first days bs b
     read-by b i = senders (setUp s x .after) cs b .0 (drawn b i)
 
-    told-read : (d j : ℕ) → j < halvesOfDay → HalfTold s x cs l first days bs d j ↔ HalfRead s x cs l first days bs d j
-    told-read d j few = (
+    module _ (b : List ℕ) (r : Sender s x cs l first days bs b) (d : ℕ) where
+      abbrev at-read : Mem
+      at-read = whenRead s x cs l first days bs b r
+
+      time-said : viewOf b .time ≡ at-read .recorder .clock .time
+      time-said = says-read (setUp s x .after) cs b r .0
+
+      days-said : viewOf b .days ≡ min (r .asked) (at-read .recorder .clock .days)
+      days-said = says-read (setUp s x .after) cs b r .1
+
+      gave : Carries (viewOf b) d → Gave s x cs l first days bs b r d
+      gave c = rw (time-said, days-said) at c
+
+      carried : Gave s x cs l first days bs b r d → Carries (viewOf b) d
+      carried g = rw (time-said, days-said) g
+
+    day-read : (d : ℕ) → DayTold s x cs l first days bs d ↔ DayRead s x cs l first days bs d
+    day-read d = (
+      λ t. let r = read-by (t .0) (t .1) in (t .0, t .1, r, gave (t .0) r d (t .2)),
+      λ t. (t .0, t .1, carried (t .0) (t .2) d (t .3)),
+    )
+
+    half-read : (d j : ℕ) → j < halvesOfDay → HalfTold s x cs l first days bs d j ↔ HalfRead s x cs l first days bs d j
+    half-read d j few = (
       λ t.
           let r = read-by (t .0) (t .1) in
-          let g : Gave s x cs l first days bs (t .0) r d = rw (r .time, r .days) at (t .2) in
-          let u = rw (r .time) at (t .3) in
-          (t .0, t .1, r, g, ended-so (whenRead s x cs l first days bs (t .0) r .recorder .clock .time) d j few .0 u),
+          let u = rw (time-said (t .0) r d) at (t .3) in
+          (t .0, t .1, r, gave (t .0) r d (t .2), ended-so (at-read (t .0) r d .recorder .clock .time) d j few .0 u),
       λ t.
           let r = t .2 in
-          (t .0, t .1, rw (r .time, r .days) (t .3), rw (r .time) (ended-so (whenRead s x cs l first days bs (t .0) r .recorder .clock .time) d j few .1 (t .4))),
+          (t .0, t .1, carried (t .0) r d (t .3), rw (time-said (t .0) r d) (ended-so (at-read (t .0) r d .recorder .clock .time) d j few .1 (t .4))),
     )
 
     day-held : (i : ℕ) → i < days → DayHeld s x cs l first days bs (first + i) (heldOn (filed s x cs l first days bs) (first + i)) (missingOf (filed s x cs l first days bs) (first + i))
@@ -356,7 +377,8 @@ module _ (s : SetUp) (x : Store) (cs : List Call) (accepted : setUp s x .answer 
     holds = record {
       answers = λ a i. answers-well hd (opened s x cs l first days bs) bs refused-none a i;
       read = read-by;
-      told = told-read;
+      told-day = day-read;
+      told-half = half-read;
       day = day-held;
       summary = day-summed;
       newly =

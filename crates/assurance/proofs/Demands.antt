@@ -3,6 +3,7 @@
 use Prim.Native.Nat.{ℕ}
 use mathlib.Core.Path.{_≡_, refl, sym, ap, _∙_}
 use mathlib.Core.Logic.{_↔_}
+use mathlib.Core.Bool.{cond}
 use mathlib.Core.List.{List}
 use native.Mathlib.Decide.{ℕ-discrete}
 use native.Mathlib.Omega.{arith}
@@ -13,6 +14,7 @@ use Rattle.laws.specs.Checks.{firstFailing}
 use Rattle.laws.proofs.Split.{by-test, by-dec}
 use Rattle.block.specs.declared.Answer.{Answer}
 use Rattle.block.specs.declared.Header.{Header}
+use Rattle.block.specs.Answers.{answer, answerOf}
 use Rattle.block.specs.Parse.{fields, parse}
 use Rattle.block.proofs.Trip.{accepted-reads, parse-back, reads-accepted}
 use Rattle.judgement.specs.Source.{lent}
@@ -22,17 +24,17 @@ use Rattle.writer.specs.Send.{writeOf}
 use Rattle.writer.proofs.Sent.{refused-keeps, sent-bytes, sent-reads}
 use Rattle.ledger.specs.Open.{openChecks, openAnswer, openOf}
 use Rattle.ledger.specs.Asked.{askedChecks, asked, daySummary, noSummary, summaryOf, dayMissing, noMissing, missingOf}
-use Rattle.filing.specs.File.{fileChecks, fileAnswer, fileOf}
+use Rattle.filing.specs.File.{readOf as readBlock, fileChecks, fileAnswer, refusal, fileOf}
 use Rattle.filing.specs.Differs.{noDifference, differsOf}
 use Rattle.filing.proofs.Differing.{carried-12, carried-other}
-use Rattle.desk.proofs.ForC.{apart, header-stays, differs-stays, identifier-stays, summary-stays, halves-stays, listing-stays, missing-refused as c-missing, flags-refused, window-refused, day-again, date-again}
+use Rattle.desk.proofs.ForC.{apart, header-gives, differs-gives, identifier-gives, summary-gives, halves-gives, listing-stays, missing-number, flags-number, window-number, day-again, date-again}
 use Rattle.kept.proofs.Stays.{answer-is, refused-same}
 use Rattle.store.specs.Store.{Store}
 use Rattle.recorder.proofs.Kept.{refused, set-up-blank, blank-refused}
 use Rattle.recorder.specs.declared.SetUp.{SetUp}
 use Rattle.recorder.specs.declared.Event.{Event}
 use Rattle.recorder.specs.Recorder.{Mem}
-use Rattle.recorder.specs.Answer.{checks, answerWith, answerOf}
+use Rattle.recorder.specs.Answer.{checks, answerWith, answerOf as eventOf}
 use Rattle.recorder.specs.Step.{step, run}
 use Rattle.recorder.specs.SetUp.{setUpChecks, setUpWith, started, blank, setUp}
 use Rattle.readout.specs.Read.{headerSent, daysSent, sourceSent, readAnswer, readOf, readDone, readBack}
@@ -46,9 +48,9 @@ use Rattle.assurance.proofs.Run.{kept}
 use Rattle.assurance.proofs.Life.{life}
 use Rattle.assurance.proofs.Reading.{block-reads, read-is}
 use Rattle.assurance.proofs.Blocks.{run-events}
-use Rattle.assurance.proofs.Senders.{senders, registers-read}
+use Rattle.assurance.proofs.Senders.{senders, registers-read, says-read}
 use Rattle.assurance.proofs.Causes.{causes}
-use Rattle.assurance.proofs.Refusals.{read-answer, write-answer}
+use Rattle.assurance.proofs.Refusals.{read-answer, read-carries, send-carries, send-answer, write-answer}
 use Rattle.assurance.proofs.Again.{written-again}
 use Rattle.assurance.proofs.Delivered.{opened-well, holds}
 
@@ -90,7 +92,7 @@ unfolding setUp setUpWith
 set-up-answer s x = refl
 
 step-answer : (x : Mem) (e : Event) → step x e .answer ≡ firstFailing (checks (x .recorder) e (length (x .store .values)) (length (x .store .starts)) (length (x .store .marks)))
-unfolding step answerOf answerWith
+unfolding step eventOf answerWith
 step-answer x e = refl
 
 open-answer : (l id : List ℕ) (first days : ℕ) → openOf l id first days .answer ≡ firstFailing (openChecks l id first days)
@@ -124,6 +126,21 @@ differs-refused l b n =
     let other = carried-other l b (eqb-false (fileAnswer l b) 12 t) .0 in
     rw (t, ne-eqb (fileAnswer l b) 0 (λ z. n (other ∙ z))))
 
+differs-none : (l b : List ℕ) → fileOf l b .answer .number ≡ 0 → differsOf l b ≡ noDifference (answer 0 0)
+unfolding differsOf refusal
+differs-none l b z = let a = sym (answer-is l b) ∙ z in rw a
+
+differs-answer : (l b : List ℕ) → let a = fileOf l b .answer .number in differsOf l b .number ≡ cond (eqb a 12) 0 a
+differs-answer l b =
+    rw (answer-is l b)
+    (by-test (eqb (fileAnswer l b) 12)
+    (λ t. rw t (carried-12 l b (eqb-true (fileAnswer l b) 12 t) .0))
+    (λ t. rw t (carried-other l b (eqb-false (fileAnswer l b) 12 t) .0)))
+
+file-carries : (l b : List ℕ) → let a = fileOf l b .answer in (a .number ≡ 0 → ⊥) → a .carried ≡ cond (eqb (a .number) 9) (answerOf (parse b) .carried) 0
+unfolding fileOf refusal readBlock
+file-carries l b n = by-test (eqb (fileAnswer l b) 0) (λ t. absurd (n (rw t))) (λ t. rw t)
+
 differs-12 : (l b : List ℕ) → ((differsOf l b .number ≡ 0) × (differsOf l b .carried ≡ 1)) ↔ (fileOf l b .answer .number ≡ 12)
 differs-12 l b =
     by-dec (ℕ-discrete (fileAnswer l b) 12)
@@ -137,15 +154,15 @@ differs-12 l b =
 for-c : ForC
 for-c = record {
   apart = apart;
-  header = header-stays;
-  differs = differs-stays;
-  identifier = identifier-stays;
-  summary = summary-stays;
-  halves = halves-stays;
+  header = header-gives;
+  differs = differs-gives;
+  identifier = identifier-gives;
+  summary = summary-gives;
+  halves = halves-gives;
   listing = listing-stays;
-  missing = c-missing;
-  flags = flags-refused;
-  window = window-refused;
+  missing = missing-number;
+  flags = flags-number;
+  window = window-number;
   day = day-again;
   date = date-again;
   ledger-length = λ l id first days e. opened-well l id first days e .1;
@@ -176,21 +193,27 @@ demand-1 = record {
   summaries = summary-refused;
   missings = missing-refused;
   differs = differs-refused;
+  differs-none = differs-none;
   for-c = for-c;
   blank-step = blank-refused;
   blank-read = blank-read;
   step-carries = step-carries;
   set-up-carries = set-up-carries;
+  read-carries = read-carries;
+  send-carries = send-carries;
+  file-carries = file-carries;
   set-up-answer = set-up-answer;
   step-answer = step-answer;
   read-answer = read-answer;
   write-answer = write-answer;
+  send-answer = send-answer;
   refuses = λ n vs. (accepted-reads n vs, reads-accepted n vs);
   open-answer = open-answer;
   file-answer = file-answer;
   summary-answer = summary-answer;
   missing-answer = missing-answer;
   causes = causes;
+  differs-answer = differs-answer;
   differs-12 = differs-12;
 }
 
@@ -220,6 +243,7 @@ demand-2 = record {
   calls = λ x cs. run-events cs x;
   read = reads;
   blocks = senders;
+  says = says-read;
   header = λ asked x out twelve e. registers-read asked x out e twelve;
   parses = parses;
   writes = writes;

@@ -138,8 +138,6 @@ first-sent n out cs x b a e = record {
   whole = refl;
   accepted = a;
   bytes = e;
-  time = rw e (time-read n x out a);
-  days = rw e (days-read n x out a);
 }
 
 later-sent : (c : Call) (cs : List Call) (x : Mem) (b : List ℕ) → ReadIn (left x c) cs b → ReadIn x (c ∷ cs) b
@@ -152,8 +150,6 @@ later-sent c cs x b r = record {
   whole = ap (λ (l : List Call). c ∷ l) (r .whole);
   accepted = r .accepted;
   bytes = r .bytes;
-  time = r .time;
-  days = r .days;
 }
 
 sender : (cs : List Call) (x : Mem) (b : List ℕ) → List·Memᴰ b (blocksIn x cs) → ReadIn x cs b
@@ -182,3 +178,10 @@ senders x cs b = (
   λ i. sender cs x b i,
   λ r. rw (r .whole) (among (r .earlier) (r .later) x (r .asked) (r .out) b (r .accepted) (r .bytes)),
 )
+
+-- whichever read sent it, a block says that read's time and has its days
+pub says-read : (x : Mem) (cs : List Call) (b : List ℕ) (r : ReadIn x cs b)
+    → (viewOf b .time ≡ runAll x (r .earlier) .recorder .clock .time) × (viewOf b .days ≡ min (r .asked) (runAll x (r .earlier) .recorder .clock .days))
+says-read x cs b r =
+    let y = runAll x (r .earlier) in
+    rw (r .bytes) (time-read (r .asked) y (r .out) (r .accepted), days-read (r .asked) y (r .out) (r .accepted))

@@ -82,7 +82,8 @@ module _ (s : SetUp) (x : Store) (cs : List Call) where
     abbrev pub HalfTold : ℕ → ℕ → Type 0
     HalfTold d j = (b : List ℕ) × List·Memᴰ b bs × Carries (viewOf b) d × (j < endedOn (viewOf b .time) d)
 
-    -- the same by the calls alone: some delivered block was sent by a read that gave day d among its days, when half-hour j of it was before the running one
+    -- the same by the calls alone, whatever the blocks say: some delivered block was sent by a read that gave day d among its days; when half-hour j of it was before
+    -- the running one
     abbrev pub Sender : List ℕ → Type 0
     Sender b = ReadIn (setUp s x .after) cs b
 
@@ -93,6 +94,9 @@ module _ (s : SetUp) (x : Store) (cs : List Call) where
     Gave b r d =
         let today = whenRead b r .recorder .clock .time / secondsOfDay in
         (d ≤ today) × (today < d + min (r .asked) (whenRead b r .recorder .clock .days))
+
+    abbrev pub DayRead : ℕ → Type 0
+    DayRead d = (b : List ℕ) × List·Memᴰ b bs × (r : Sender b) × Gave b r d
 
     abbrev pub HalfRead : ℕ → ℕ → Type 0
     HalfRead d j =
@@ -112,9 +116,10 @@ module _ (s : SetUp) (x : Store) (cs : List Call) where
     pub record Holds : Type 0 where
       -- nothing is refused
       pub answers : (a : Answer) → List·Memᴰ a (answersAll opened bs) → a .number ≡ 0
-      -- each was sent by a read of the run, and has its time and its days; so told is: had ended when a delivered block that gives the day was read
+      -- each was sent by a read of the run; so told, below, is: had ended when a delivered block that gives the day was read
       pub read : (b : List ℕ) → List·Memᴰ b bs → Sender b
-      pub told : (d j : ℕ) → j < halvesOfDay → HalfTold d j ↔ HalfRead d j
+      pub told-day : (d : ℕ) → DayTold d ↔ DayRead d
+      pub told-half : (d j : ℕ) → j < halvesOfDay → HalfTold d j ↔ HalfRead d j
       -- each day of the window
       pub day : (i : ℕ) → i < days → DayHeld (first + i) (heldOn filed (first + i)) (missingOf filed (first + i))
       pub summary : (i : ℕ) → i < days → Summed past (first + i) (heldOn filed (first + i)) (summaryOf filed (first + i))

@@ -48,8 +48,7 @@ unfoldable pub blocksIn : Mem → List Call → List (List ℕ)
 blocksIn x [] = []
 blocksIn x (c ∷ cs) = sends x c ++ blocksIn (left x c) cs
 
--- the read that sent the bytes b: one of the calls, which asked so many days of the recorder as the earlier calls left it, and was answered 0.
--- The block has the time on that recorder's clock, and the days asked for, or all that it had stored
+-- the read that sent the bytes b: one of the calls, which asked so many days of the recorder as the earlier calls left it, and was answered 0
 pub record ReadIn (x : Mem) (cs : List Call) (b : List ℕ) : Type 0 where
   pub earlier : List Call
   pub asked : ℕ
@@ -58,8 +57,6 @@ pub record ReadIn (x : Mem) (cs : List Call) (b : List ℕ) : Type 0 where
   pub whole : cs ≡ earlier ++ (reads asked out ∷ later)
   pub accepted : readOf asked (runAll x earlier) out .answer .number ≡ 0
   pub bytes : b ≡ blockOf (readOf asked (runAll x earlier) out)
-  pub time : viewOf b .time ≡ runAll x earlier .recorder .clock .time
-  pub days : viewOf b .days ≡ min asked (runAll x earlier .recorder .clock .days)
 
 -- a header h has a recorder's registers: energy in whole kWh, demands, reset date and count as they stand
 pub record Registers (r : Recorder) (h : Header) : Type 0 where

@@ -1,76 +1,76 @@
--- What C may rely on: an answer and what it carries are told apart again, a refusal leaves what was lent, days and dates undo each other.
+-- What C may rely on: an answer and what it carries are told apart again, each call that gives a row gives just that, days and dates undo each other.
 -- Assumes nothing.
-use Prim.Native.Nat.{ℕ, _<_}
-use mathlib.Core.Path.{_≡_, refl}
+use Prim.Native.Nat.{ℕ, _-_, _<_}
+use mathlib.Core.Path.{_≡_, refl, sym}
+use mathlib.Core.Bool.{cond}
 use mathlib.Core.List.{List}
-use native.Mathlib.Decide.{ℕ-discrete}
 use native.Mathlib.Omega.{arith}
-use lib.Dec.{eqb, leb}
+use lib.Dec.{eqb}
 use lib.ListN.{length}
-use borrow.Author.Tests.{eqb-true, lt-leb}
-use Rattle.laws.proofs.Split.{by-test, by-dec}
+use borrow.Author.Tests.{eqb-true, eq-eqb, ne-eqb, le-leb, lt-leb}
+use Rattle.laws.specs.Table.{table}
+use Rattle.laws.proofs.Split.{by-test}
 use Rattle.calendar.specs.declared.Found.{Found}
 use Rattle.calendar.specs.declared.Found.the-variants.{Day, Unreal}
 use Rattle.calendar.specs.Calendar.{daysInAll, dateOf}
+use Rattle.calendar.specs.Clock.{halvesOfDay}
 use Rattle.calendar.specs.Digits.{dateDigits, dayOn}
 use Rattle.calendar.proofs.Digits.{date-found, day-found}
 use Rattle.block.specs.Answers.{answer}
 use Rattle.block.specs.declared.Answer.{Answer}
-use Rattle.reader.proofs.Answers.{read-is}
+use Rattle.days.specs.Day.{flagsOf, count}
+use Rattle.ledger.specs.Layout.{firstOf, daysOf}
+use Rattle.ledger.specs.Rooms.{slot}
 use Rattle.ledger.specs.Judged.{judged}
-use Rattle.ledger.specs.Asked.{asked, missingOf, summaryOf}
-use Rattle.ledger.proofs.Asking.{asked-few}
+use Rattle.ledger.specs.Asked.{asked, dayMissing, missingOf, summaryOf}
+use Rattle.fields.specs.Views.{headerIn}
 use Rattle.lines.specs.Listing.{shown, shownLength}
-use Rattle.filing.specs.File.{fileAnswer, readOf}
+use Rattle.filing.specs.File.{readOf}
 use Rattle.filing.specs.Differs.{differsOf}
-use Rattle.filing.proofs.Differing.{carried-12, carried-other}
-use Rattle.desk.specs.Numbers.{answerPlace, oneNumber, answerIn, carriedIn, missingNumber, flagsNumber, windowNumber, noDay, dayOrNone}
-use Rattle.desk.specs.Given.{giveRow, giveFound, giveHeader, giveDiffers, giveIdentifier, giveSummary, giveHalves}
+use Rattle.desk.specs.Numbers.{answerPlace, oneNumber, answerIn, carriedIn, firstAndCount, missingNumber, flagsNumber, windowNumber, noDay, dayOrNone}
+use Rattle.desk.specs.Given.{giveRow, giveFound, Gives, letterOf, headerRow, giveHeader, differenceRow, giveDiffers, giveIdentifier, summaryRow, giveSummary, halfNumber, giveHalves}
 
 pub apart : (a c : ℕ) → c < answerPlace → (answerIn (oneNumber a c) ≡ a) × (carriedIn (oneNumber a c) ≡ c)
 apart a c h = (omega arith, omega arith)
 
 -- ---- rows
 
-row-stays : (out xs : List ℕ) (a c : ℕ) → (a ≡ 0 → c < answerPlace) → (answerIn (giveRow out a xs c .number) ≡ 0 → ⊥) → giveRow out a xs c .out ≡ out
+row-gives : (out xs : List ℕ) (a c : ℕ) → Gives (giveRow out a xs c) out (answer a 0) xs c
 unfolding giveRow
-row-stays out xs a c few f =
-    by-test (eqb a 0)
-    (λ t. by-test (leb (length xs) (length out))
-    (λ u. let low = few (eqb-true a 0 t) in absurd (f (rw (t, u) (apart 0 c low .0))))
-    (λ u. rw (t, u)))
-    (λ t. rw t)
+row-gives out xs a c = record {
+  refused = λ n. rw (ne-eqb a 0 n);
+  short = λ z l. rw (eq-eqb a 0 z, lt-leb (length xs) (length out) l);
+  done = λ z l. rw (eq-eqb a 0 z, le-leb (length xs) (length out) l);
+}
 
-found-stays : (out xs : List ℕ) (a : Answer) → (a .number ≡ 0 → a .carried < answerPlace) → (answerIn (giveFound out a xs .number) ≡ 0 → ⊥) → giveFound out a xs .out ≡ out
-unfolding giveFound
-found-stays out xs a few f =
-    by-test (eqb (a .number) 0)
-    (λ t. rw t (row-stays out xs 0 (a .carried) (λ _. few (eqb-true (a .number) 0 t)) (λ e. f (rw t e))))
-    (λ t. rw t)
+found-gives : (out xs : List ℕ) (a : Answer) → Gives (giveFound out a xs) out a xs (a .carried)
+unfolding giveFound giveRow
+found-gives out xs a = record {
+  refused = λ n. rw (ne-eqb (a .number) 0 n);
+  short = λ z l. rw (eq-eqb (a .number) 0 z, lt-leb (length xs) (length out) l);
+  done = λ z l. rw (eq-eqb (a .number) 0 z, le-leb (length xs) (length out) l);
+}
 
-pub header-stays : (b out : List ℕ) → (answerIn (giveHeader b out .number) ≡ 0 → ⊥) → giveHeader b out .out ≡ out
-unfolding giveHeader readOf
-header-stays b out f =
-    found-stays out _ (readOf b) (λ z. omega (arith, read-is b (readOf b .number) (readOf b .carried) refl z .few)) f
+pub header-gives : (b out : List ℕ) → Gives (giveHeader b out) out (readOf b) (headerRow (headerIn b) (readOf b .carried)) (readOf b .carried)
+unfolding giveHeader
+header-gives b out = found-gives out (headerRow (headerIn b) (readOf b .carried)) (readOf b)
 
-pub differs-stays : (l b out : List ℕ) → (answerIn (giveDiffers l b out .number) ≡ 0 → ⊥) → giveDiffers l b out .out ≡ out
+pub differs-gives : (l b out : List ℕ) → Gives (giveDiffers l b out) out (answer (differsOf l b .number) (differsOf l b .carried)) (differenceRow (differsOf l b)) (differsOf l b .carried)
 unfolding giveDiffers
-differs-stays l b out f =
-    found-stays out _ (answer (differsOf l b .number) (differsOf l b .carried))
-    (λ z. by-dec (ℕ-discrete (fileAnswer l b) 12) (λ e. omega (arith, carried-12 l b e .1)) (λ e. omega (arith, carried-other l b e .1 z)))
-    f
+differs-gives l b out = found-gives out (differenceRow (differsOf l b)) (answer (differsOf l b .number) (differsOf l b .carried))
 
-pub identifier-stays : (l out : List ℕ) → (answerIn (giveIdentifier l out .number) ≡ 0 → ⊥) → giveIdentifier l out .out ≡ out
+pub identifier-gives : (l out : List ℕ) → Gives (giveIdentifier l out) out (answer (judged l) 0) (table 12 (letterOf l)) 0
 unfolding giveIdentifier
-identifier-stays l out f = row-stays out _ (judged l) 0 (λ z. omega arith) f
+identifier-gives l out = row-gives out (table 12 (letterOf l)) (judged l) 0
 
-pub summary-stays : (l : List ℕ) (d : ℕ) (out : List ℕ) → (answerIn (giveSummary l d out .number) ≡ 0 → ⊥) → giveSummary l d out .out ≡ out
+pub summary-gives : (l : List ℕ) (d : ℕ) (out : List ℕ) → Gives (giveSummary l d out) out (answer (summaryOf l d .answer) 0) (summaryRow (summaryOf l d)) 0
 unfolding giveSummary
-summary-stays l d out f = row-stays out _ (summaryOf l d .answer) 0 (λ z. omega arith) f
+summary-gives l d out = row-gives out (summaryRow (summaryOf l d)) (summaryOf l d .answer) 0
 
-pub halves-stays : (l : List ℕ) (d : ℕ) (out : List ℕ) → (answerIn (giveHalves l d out .number) ≡ 0 → ⊥) → giveHalves l d out .out ≡ out
+pub halves-gives : (l : List ℕ) (d : ℕ) (out : List ℕ)
+    → Gives (giveHalves l d out) out (answer (asked l d) 0) (table halvesOfDay (halfNumber (slot l (d - firstOf l)))) (count (slot l (d - firstOf l)))
 unfolding giveHalves
-halves-stays l d out f = row-stays out _ (asked l d) _ (λ z. omega (arith, asked-few l d z)) f
+halves-gives l d out = row-gives out (table halvesOfDay (halfNumber (slot l (d - firstOf l)))) (asked l d) (count (slot l (d - firstOf l)))
 
 pub listing-stays : (out text : List ℕ) → length out < length text → (shown out text ≡ out) × (shownLength out text ≡ 0)
 unfolding shown shownLength
@@ -78,17 +78,18 @@ listing-stays out text h = rw (lt-leb (length text) (length out) h) (refl, refl)
 
 -- ---- questions that are answered by a number alone
 
-pub flags-refused : (l : List ℕ) (d : ℕ) → (asked l d ≡ 0 → ⊥) → flagsNumber l d ≡ oneNumber (asked l d) 0
+pub flags-number : (l : List ℕ) (d : ℕ) → flagsNumber l d ≡ oneNumber (asked l d) (cond (eqb (asked l d) 0) (flagsOf (slot l (d - firstOf l))) 0)
 unfolding flagsNumber
-flags-refused l d f = by-test (eqb (asked l d) 0) (λ t. absurd (f (eqb-true (asked l d) 0 t))) (λ t. rw t)
+flags-number l d = by-test (eqb (asked l d) 0) (λ t. rw (t, eqb-true (asked l d) 0 t)) (λ t. rw t)
 
-pub window-refused : (l : List ℕ) → (judged l ≡ 0 → ⊥) → windowNumber l ≡ oneNumber (judged l) 0
+pub window-number : (l : List ℕ) → windowNumber l ≡ oneNumber (judged l) (cond (eqb (judged l) 0) (firstAndCount (firstOf l) (daysOf l)) 0)
 unfolding windowNumber
-window-refused l f = by-test (eqb (judged l) 0) (λ t. absurd (f (eqb-true (judged l) 0 t))) (λ t. rw t)
+window-number l = by-test (eqb (judged l) 0) (λ t. rw (t, eqb-true (judged l) 0 t)) (λ t. rw t)
 
-pub missing-refused : (l : List ℕ) (d : ℕ) → (asked l d ≡ 0 → ⊥) → missingNumber (missingOf l d) ≡ oneNumber (asked l d) 0
-unfolding missingOf
-missing-refused l d f = by-test (eqb (asked l d) 0) (λ t. absurd (f (eqb-true (asked l d) 0 t))) (λ t. rw t)
+pub missing-number : (l : List ℕ) (d : ℕ) → let k = count (slot l (d - firstOf l)) in
+    missingNumber (missingOf l d) ≡ oneNumber (asked l d) (cond (eqb (asked l d) 0) (firstAndCount k (halvesOfDay - k)) 0)
+unfolding missingOf dayMissing
+missing-number l d = by-test (eqb (asked l d) 0) (λ t. rw (t, eqb-true (asked l d) 0 t)) (λ t. rw t)
 
 -- ---- days and dates
 

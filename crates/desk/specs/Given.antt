@@ -1,9 +1,10 @@
 -- Rows of numbers written into an output that C lends: a block's header, what differs, the identifier, a day's summary and its 48 half-hours. They are
 -- written where the answer is 0 and the output has room; the rest of the output, and all of it where the call is refused, stays as it was. 7 carries the
 -- room needed.
+use mathlib.Core.Path.{_≡_}
 use mathlib.Core.Bool.{cond}
 use mathlib.Core.List.{List, [], _∷_, _++_}
-use Prim.Native.Nat.{ℕ, _+_, _-_, _*_}
+use Prim.Native.Nat.{ℕ, _+_, _-_, _*_, _<_, _≤_}
 use lib.Dec.{eqb, leb, ltb}
 use lib.ListN.{length, getD}
 use lib.Seq.{sets}
@@ -45,6 +46,12 @@ giveRow out a xs c =
 -- the same where a refusal too carries something
 unfoldable pub giveFound : List ℕ → Answer → List ℕ → Given
 giveFound out a xs = cond (eqb (a .number) 0) (giveRow out 0 xs (a .carried)) (given out (numberOf a))
+
+-- a call that is answered a, and done gives the row xs and carries c: refused, and without room, it leaves the output; 7 carries the room needed
+pub record Gives (g : Given) (out : List ℕ) (a : Answer) (xs : List ℕ) (c : ℕ) : Type 0 where
+  pub refused : (a .number ≡ 0 → ⊥) → g ≡ given out (numberOf a)
+  pub short : a .number ≡ 0 → length out < length xs → g ≡ given out (oneNumber 7 (length xs))
+  pub done : a .number ≡ 0 → length xs ≤ length out → g ≡ given (sets out 0 xs) (oneNumber 0 c)
 
 -- ---- a block's header, in the block's order: identifier, time of reading, kWh register, current, previous, cumulative demand, last reset, reset count,
 -- eight rate registers, number of days
