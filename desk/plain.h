@@ -1,4 +1,4 @@
-/* Every call of the library in plain C, written from the documents alone: the comparison holds the two against each other, stand_in.c stands in for the
+/* Every call of the library in plain C, written from the rules and layouts alone: the comparison holds the two against each other, stand_in.c stands in for the
  * archive by it. The benchmark measures the library against its reader, filing and summary, and against the same loops of a recorder's events and reads as
  * crates/timing has. */
 #ifndef PLAIN_H
