@@ -1,6 +1,6 @@
 -- A run: calls to one recorder from its set-up on, events and reads, each taking the recorder and the store that the last one left.
 -- The blocks of a run are what its accepted reads sent (docs/RULES.md, "Answer numbers": the answer carries the block's bytes).
-use Prim.Native.Nat.{ℕ, _/_, _<_, min}
+use Prim.Native.Nat.{ℕ, _/_, _<_}
 use mathlib.Core.Path.{_≡_}
 use mathlib.Core.Bool.{cond}
 use mathlib.Core.List.{List, [], _∷_, _++_}
@@ -11,7 +11,6 @@ use Rattle.block.specs.declared.Header.{Header}
 use Rattle.registers.specs.Energy.{rateCount, noEnergy}
 use Rattle.recorder.specs.declared.Recorder.{Recorder}
 use Rattle.writer.specs.Send.{Sent}
-use Rattle.rooms.specs.View.{viewOf}
 use Rattle.recorder.specs.declared.Event.{Event}
 use Rattle.recorder.specs.Recorder.{Mem}
 use Rattle.recorder.specs.Step.{step}
