@@ -103,6 +103,8 @@ pub record Demand2 : Type 0 where
   pub calls : (x : Mem) (cs : List Call) → runAll x cs ≡ run x (eventsOf cs)
   pub read : (s : SetUp) (x : Store) (cs : List Call) (asked : ℕ) (out : List ℕ) → setUp s x .answer ≡ 0
       → readOf asked (runAll (setUp s x .after) cs) out ≡ sentDue s (paper s (eventsOf cs)) asked out
+  pub parses : (s : SetUp) (x : Store) (es : List Event) (asked : ℕ) → setUp s x .answer ≡ 0
+      → parse (blockDue s (paper s es) asked) ≡ fields (daysDue s (paper s es) asked) (fieldsDue s (paper s es) asked)
   -- the blocks of a run are what its reads that are answered 0 sent, those and no others
   pub blocks : (x : Mem) (cs : List Call) (b : List ℕ) → List·Memᴰ b (blocksIn x cs) ↔ ReadIn x cs b
   -- and whichever read sent it, a block says the time on the recorder's clock at that read, and has the days asked for, or all that were stored
@@ -111,8 +113,6 @@ pub record Demand2 : Type 0 where
   -- what a read sends has the recorder's registers, as `fields` gives its header
   pub header : (asked : ℕ) (x : Mem) (out : List ℕ) → length (x .recorder .identity .identifier) ≡ 12 → readOf asked x out .answer .number ≡ 0
       → Registers (x .recorder) (headerIn (blockOf (readOf asked x out)))
-  pub parses : (s : SetUp) (x : Store) (es : List Event) (asked : ℕ) → setUp s x .answer ≡ 0
-      → parse (blockDue s (paper s es) asked) ≡ fields (daysDue s (paper s es) asked) (fieldsDue s (paper s es) asked)
   -- a block written from given fields reads back as these
   pub writes : (h : Header) (n : ℕ) (v s m out : List ℕ) → length (h .rates) ≡ rateCount → writeOf h n v s m out .answer .number ≡ 0
       → parse (blockOf (writeOf h n v s m out)) ≡ fields n (given h n (daysFrom (lent n) v s m))
