@@ -1,4 +1,5 @@
 pub mod Opens
 pub mod Computed
 pub mod Orders
+pub mod Bytes
 pub mod Worked
