@@ -26,6 +26,7 @@ unfolding opens
 of-two-met = record { is = refl }
 
 most-met : Met most
+unfolding opens
 most-met = record { is = refl }
 
 pub written-out : map (λ (c : Case). c .given) bytes ≡ map (λ (c : Case). c .due) bytes

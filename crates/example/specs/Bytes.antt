@@ -139,7 +139,7 @@ day date start values reverse level2 =
     figures (2 ∷ 4 ∷ (date ++ start))
     ++ (0 ∷ (figures values ++ (reverse ∷ 0 ∷ 0 ∷ 0 ∷ 0 ∷ 0 ∷ level2 ∷ 0 ∷ 0 ∷ 0 ∷ 0 ∷ 0 ∷ [])))
 
--- the three dates
+-- three dates, three values
 abbrev pub d27 : List ℕ
 d27 = 0 ∷ 2 ∷ 2 ∷ 7 ∷ []
 
@@ -148,6 +148,9 @@ d28 = 0 ∷ 2 ∷ 2 ∷ 8 ∷ []
 
 abbrev pub d29 : List ℕ
 d29 = 0 ∷ 2 ∷ 2 ∷ 9 ∷ []
+
+abbrev pub v0040 : List ℕ
+v0040 = 0 ∷ 0 ∷ 4 ∷ 0 ∷ []
 
 abbrev pub v1150 : List ℕ
 v1150 = 1 ∷ 1 ∷ 5 ∷ 0 ∷ []
@@ -171,7 +174,7 @@ final = copies 45 v1230 ++ v1150
 
 -- the older day: start 00469990, values 0040 and 47 times 1100, so that its advances are 50, 1060 and zeros, and its end is 00471100
 abbrev pub older : List ℕ → List ℕ
-older date = day date (0 ∷ 0 ∷ 4 ∷ 6 ∷ 9 ∷ 9 ∷ 9 ∷ 0 ∷ []) (0 ∷ 0 ∷ 4 ∷ 0 ∷ copies 47 (1 ∷ 1 ∷ 0 ∷ 0 ∷ [])) 0 0
+older date = day date (0 ∷ 0 ∷ 4 ∷ 6 ∷ 9 ∷ 9 ∷ 9 ∷ 0 ∷ []) (v0040 ++ copies 47 (1 ∷ 1 ∷ 0 ∷ 0 ∷ [])) 0 0
 
 -- ---- the rows
 
@@ -207,6 +210,14 @@ abbrev pub ofTwo : List Case
 ofTwo =
     -- that join
     record { given = told (parses (two 2 (newer d29 0 right 0 0) (older d28)) ∷ []); due = 0 ∷ 2 ∷ [] }
+    -- that join where the reading runs round: start 99999990 and advance 50, start 00000040
+    ∷ record {
+      given = told
+          (parses
+          (two 2 (day d29 (0 ∷ 0 ∷ 0 ∷ 0 ∷ 0 ∷ 0 ∷ 4 ∷ 0 ∷ []) (copies 48 v0040) 0 0) (day d28 (9 ∷ 9 ∷ 9 ∷ 9 ∷ 9 ∷ 9 ∷ 9 ∷ 0 ∷ []) (copies 48 v0040) 0 0))
+          ∷ []);
+      due = 0 ∷ 2 ∷ [];
+    }
     -- the newer day's start is one more than the older day's end
     ∷ record { given = told (parses (two 2 (newer d29 1 right 0 0) (older d28)) ∷ []); due = 10 ∷ 0 ∷ [] }
     -- the older day is two days before the newer one; is the same day
@@ -220,6 +231,11 @@ abbrev pub most : List Case
 most =
     -- of a block, of a ledger
     record { given = mostDays ∷ longestWindow ∷ []; due = 450 ∷ 450 ∷ [] }
+    -- bytes of which all are zero after length and version: as many as 450 days have, 98,662, where the identifier is wrong; as many as 451 have, 98,881
+    ∷ record {
+      given = told (parses (0 ∷ 1 ∷ 129 ∷ 98 ∷ 1 ∷ replicate 98657 0) ∷ parses (0 ∷ 1 ∷ 130 ∷ 61 ∷ 1 ∷ replicate 98876 0) ∷ []);
+      due = 9 ∷ 5 ∷ 8 ∷ 0 ∷ [];
+    }
     ∷ []
 
 -- all of them

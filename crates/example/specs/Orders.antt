@@ -1,5 +1,5 @@
 -- The order of the answers to a read, of the writer, of the reader, and of a ledger that is opened, filed in and asked (docs/RULES.md, "Checked in this order"); the crate
--- `recorder` has that of set-up and events (Cases). Each row's inputs are refused by two checks or more, so that it shows which of them comes first, or by one alone.
+-- `recorder` has that of set-up and events (Cases). Each row's inputs are refused by two checks or more, so that it shows which of them comes first, or by one alone, or is done.
 use Prim.Native.Nat.{ℕ, _/_, _%_}
 use mathlib.Core.List.{List, [], _∷_, _++_}
 use lib.ListN.{replicate, set, take}
@@ -139,7 +139,7 @@ reading =
     ∷ record { given = told (reads (badDay good) 1 331 ∷ reads (badDay good) 1 330 ∷ []); due = 5 ∷ 0 ∷ 5 ∷ 0 ∷ [] }
     -- 5 for a stored day out of range, though the reader would take the block
     ∷ record { given = told (reads (badMark good) 1 331 ∷ []); due = 5 ∷ 0 ∷ [] }
-    -- a block that the reader would refuse; and a byte too few
+    -- that 5 before 7: a block that the reader would refuse; and a byte too few
     ∷ record { given = told (reads (badBlock good) 0 112 ∷ reads (badBlock good) 0 111 ∷ []); due = 5 ∷ 0 ∷ 5 ∷ 0 ∷ [] }
     -- 7: a byte too few, of one day and of none
     ∷ record { given = told (reads good 1 330 ∷ reads good 0 111 ∷ []); due = 7 ∷ 331 ∷ 7 ∷ 112 ∷ [] }
@@ -182,8 +182,8 @@ abbrev pub opening : List Case
 opening =
     -- done: the first day, the last; 4: a byte too few, a byte too many, the room of one for 450 days
     record { given = opens 130 ident 0 1 ∷ opens 130 ident 36524 1 ∷ opens 129 ident 0 1 ∷ opens 131 ident 0 1 ∷ opens 130 ident 0 450 ∷ []; due = 0 ∷ 0 ∷ 4 ∷ 4 ∷ 4 ∷ [] }
-    -- 6: a small letter; past 2099
-    ∷ record { given = opens 130 small 0 1 ∷ opens 130 ident 36525 1 ∷ []; due = 6 ∷ 6 ∷ [] }
+    -- 6: a small letter; past 2099; two days, of which the second is
+    ∷ record { given = opens 130 small 0 1 ∷ opens 130 ident 36525 1 ∷ opens 244 ident 36524 2 ∷ []; due = 6 ∷ 6 ∷ 6 ∷ [] }
     -- 6 before 4, a byte too few each time: these; eleven characters; thirteen; no day; 451 days
     ∷ record {
       given = opens 129 small 0 1 ∷ opens 129 ident 36525 1 ∷ opens 129 (take 11 ident) 0 1 ∷ opens 129 (ident ++ (48 ∷ [])) 0 1
@@ -217,7 +217,7 @@ filing =
 abbrev pub comparing : List Case
 comparing =
     -- 11 before 12: another meter's block, with a start of 8; 12: its own, with that start
-    record { given = files (ledger 1 heldRoom) (oneDay other 0 8) .number ∷ files (ledger 1 heldRoom) (oneDay ident 0 8) .number ∷ []; due = 11 ∷ 12 ∷ [] }
+    record { given = told (files (ledger 1 heldRoom) (oneDay other 0 8) ∷ files (ledger 1 heldRoom) (oneDay ident 0 8) ∷ []); due = 11 ∷ 0 ∷ 12 ∷ 0 ∷ [] }
     ∷ []
 
 -- summary and missing of a day
