@@ -1,4 +1,4 @@
--- The starred cases of the table "Reckoned by hand" of docs/RULES.md, its outage of three days, the daily flags, and answers 1, 6 and 2; then the days of the classes, the
+-- The starred cases of the table "Reckoned by hand" of docs/RULES.md, its outage of three days, the daily flags, the marks, and answers 1, 6 and 2; then the days of the classes, the
 -- characters of an identifier and the ranges of a recorder's fields (docs/RULES.md, "Set-up"), and the order of the answers to set-up and events (docs/RULES.md, "Checked in this
 -- order"), by inputs that two checks refuse. For each what the definitions give, and what is due.
 use Prim.Native.Nat.{ℕ}
@@ -19,7 +19,7 @@ use Rattle.recorder.specs.Answer.{answerOf}
 use Rattle.recorder.specs.Step.{step, run}
 use Rattle.recorder.specs.Effect.{rateIs}
 use Rattle.recorder.specs.SetUp.{given, blank, setUp}
-use Rattle.recorder.specs.Stored.{valueOf, flagsWord, advanced}
+use Rattle.recorder.specs.Stored.{valueOf, reverseWord, level2Word, flagsWord, advanced}
 
 -- a row of the table
 pub record Case : Type 0 where
@@ -169,6 +169,12 @@ cases =
     }
     -- Meter and Reset flag the day 0x40 and 0x20
     ∷ record { given = flagsWord (next (meter 0 0 0 1) (Meter 7)) 0 ∷ flagsWord (next (meter 0 0 0 1) Reset) 0 ∷ []; due = 64 ∷ 32 ∷ [] }
+    -- Reverse in the first half-hour, Access in the second, the third passed over: of three marks each word has the latest in its lowest bit (docs/STORE.md)
+    ∷ record {
+      given = reverseWord (run (meter 0 0 0 1) (Reverse ∷ Clock 1800 ∷ Access ∷ Clock 5400 ∷ [])) 0
+          ∷ level2Word (run (meter 0 0 0 1) (Reverse ∷ Clock 1800 ∷ Access ∷ Clock 5400 ∷ [])) 0 ∷ [];
+      due = 4 ∷ 2 ∷ [];
+    }
     -- while on, On is 1; while off, any other
     ∷ record { given = answers (meter 0 0 0 1) kinds; due = 0 ∷ 0 ∷ 0 ∷ 1 ∷ 0 ∷ 0 ∷ 0 ∷ 0 ∷ 0 ∷ [] }
     ∷ record { given = answers (next (meter 0 0 0 1) Off) kinds; due = 1 ∷ 1 ∷ 1 ∷ 0 ∷ 1 ∷ 1 ∷ 1 ∷ 1 ∷ 1 ∷ [] }
