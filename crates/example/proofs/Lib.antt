@@ -1,4 +1,5 @@
 pub mod Opens
+pub mod Rows
 pub mod Computed
 pub mod Orders
 pub mod Bytes

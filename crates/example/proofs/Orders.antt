@@ -1,17 +1,11 @@
 -- The orders: one statement over one list.
 -- Assumes nothing.
-use mathlib.Core.Path.{_≡_, refl, sym, _∙_}
-use mathlib.Core.List.{List, _++_, map, map-append}
+use mathlib.Core.Path.{_≡_, refl}
+use mathlib.Core.List.{map}
 use Rattle.recorder.specs.Cases.{Case}
 use Rattle.example.proofs.Opens.{opens}
+use Rattle.example.proofs.Rows.{Met, both}
 use Rattle.example.specs.Orders.{reading, writing, parsing, opening, filing, comparing, asking, orders}
-
--- the rows of each call by themselves, since one computation of all would be too long, and these joined
-record Met (cs : List Case) : Type 0 where
-  is : map (λ (c : Case). c .given) cs ≡ map (λ (c : Case). c .due) cs
-
-both : {a b : List Case} → Met a → Met b → Met (a ++ b)
-both {a} {b} p q = record { is = map-append (λ (c : Case). c .given) a b ∙ (λ i. p .is i ++ q .is i) ∙ sym (map-append (λ (c : Case). c .due) a b) }
 
 reading-met : Met reading
 unfolding opens
