@@ -24,7 +24,7 @@ use Rattle.ledger.specs.Judged.{judged}
 use Rattle.rooms.specs.View.{viewOf}
 use Rattle.filing.specs.File.{identAt, sameMeter, agreeAt, agrees, readOf, fileOf}
 use Rattle.filing.proofs.Filing.{file-answer}
-use Rattle.kept.proofs.Stays.{answer-is}
+use Rattle.filing.proofs.Answers.{answer-is}
 use Rattle.assurance.specs.Causes.{Alike, SameIdentifier, AllAlike, Causes}
 
 -- ---- two holdings of one day

@@ -23,6 +23,5 @@ pub mod Senders
 pub mod Summed
 pub mod Delivered
 pub mod Causes
-pub mod Refusals
 pub mod Again
 pub mod Demands

@@ -18,6 +18,7 @@ use Rattle.judgement.specs.Source.{lent}
 use Rattle.judgement.specs.Days.{daysFrom}
 use Rattle.judgement.specs.Given.{given}
 use Rattle.writer.specs.Send.{sent, sendOf, writeOf}
+use Rattle.writer.specs.Refusals.{blockCarried, sendRefusals, writeRefusals}
 use Rattle.fields.specs.Views.{headerIn}
 use Rattle.ledger.specs.Judged.{judged}
 use Rattle.ledger.specs.Open.{openChecks, openOf}
@@ -34,15 +35,19 @@ use Rattle.recorder.specs.Answer.{checks}
 use Rattle.recorder.specs.Step.{step, run}
 use Rattle.recorder.specs.SetUp.{setUpChecks, blank, setUp}
 use Rattle.readout.specs.Read.{daysSent, readOf, readDone, readBack}
+use Rattle.readout.specs.Refusals.{readRefusals}
 use Rattle.assurance.specs.Written.{paper}
 use Rattle.assurance.specs.Sent.{daysDue, fieldsDue, blockDue, sentDue}
 use Rattle.assurance.specs.Run.{Call, runAll, eventsOf, blockOf, blocksIn, ReadIn, Registers}
 use Rattle.assurance.specs.Life.{Life}
 use Rattle.assurance.specs.Causes.{Causes}
-use Rattle.assurance.specs.Refusals.{Refused, blockCarried, readRefusals, sendRefusals, writeRefusals}
 use Rattle.assurance.specs.ForC.{ForC}
 use Rattle.assurance.specs.Again.{valuesOf, startsOf, wordsOf}
 use Rattle.assurance.specs.Delivered.{Drawn, Holds}
+
+-- an answer that is not 0
+abbrev pub Refused : ℕ → Type 0
+Refused number = number ≡ 0 → ⊥
 
 -- Demand 1: whatever is given, a refusal changes nothing, and is given only with cause. (That every call answers is its contract, which asks nothing.)
 pub record Demand1 : Type 0 where

@@ -1,5 +1,5 @@
 -- Paper: what happened, without end. Written: what each event writes on it. Meaning: what is said of a list of events. Sent: what a read sends.
--- Life, Run, Delivered, Causes, Refusals, ForC, Again: what the demands say of each. Demands: the three demands.
+-- Life, Run, Delivered, Causes, ForC, Again: what the demands say of each. Demands: the three demands.
 pub mod Paper
 pub mod Written
 pub mod Meaning
@@ -8,7 +8,6 @@ pub mod Life
 pub mod Run
 pub mod Delivered
 pub mod Causes
-pub mod Refusals
 pub mod ForC
 pub mod Again
 pub mod Demands

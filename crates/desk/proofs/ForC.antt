@@ -24,7 +24,6 @@ use Rattle.ledger.specs.Rooms.{slot}
 use Rattle.ledger.specs.Judged.{judged}
 use Rattle.ledger.specs.Asked.{asked, dayMissing, missingOf, summaryOf}
 use Rattle.fields.specs.Views.{headerIn}
-use Rattle.lines.specs.Listing.{shown, shownLength}
 use Rattle.filing.specs.File.{readOf}
 use Rattle.filing.specs.Differs.{differsOf}
 use Rattle.desk.specs.Numbers.{answerPlace, oneNumber, answerIn, carriedIn, firstAndCount, missingNumber, flagsNumber, windowNumber, noDay, dayOrNone}
@@ -71,10 +70,6 @@ pub halves-gives : (l : List ℕ) (d : ℕ) (out : List ℕ)
     → Gives (giveHalves l d out) out (answer (asked l d) 0) (table halvesOfDay (halfNumber (slot l (d - firstOf l)))) (count (slot l (d - firstOf l)))
 unfolding giveHalves
 halves-gives l d out = row-gives out (table halvesOfDay (halfNumber (slot l (d - firstOf l)))) (asked l d) (count (slot l (d - firstOf l)))
-
-pub listing-stays : (out text : List ℕ) → length out < length text → (shown out text ≡ out) × (shownLength out text ≡ 0)
-unfolding shown shownLength
-listing-stays out text h = rw (lt-leb (length text) (length out) h) (refl, refl)
 
 -- ---- questions that are answered by a number alone
 

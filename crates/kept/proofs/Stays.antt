@@ -1,4 +1,4 @@
--- Of one filing: a refusal changes nothing; a good ledger stays good; what is newly held is what is held after less what was held before.
+-- Of one filing: a good ledger stays good; what is newly held is what is held after less what was held before.
 -- Assumes nothing.
 use mathlib.Core.Path.{_≡_, refl, sym, ap, _∙_}
 use mathlib.Core.Bool.{true}
@@ -20,23 +20,15 @@ use Rattle.ledger.specs.Judged.{judged, fits}
 use Rattle.ledger.proofs.Packed.{Fit, fit-of, slot-packed}
 use Rattle.ledger.proofs.Good.{judged-good, slot-fits, pack-good}
 use Rattle.rooms.specs.View.{viewOf}
-use Rattle.filing.specs.File.{readOf, fileAnswer, refusal, dayAfter, ledgerAfter, heldOf, newlyHeld, Filing, filing, fileOf}
+use Rattle.filing.specs.File.{readOf, fileAnswer, dayAfter, ledgerAfter, heldOf, newlyHeld, Filing, filing, fileOf}
+use Rattle.filing.proofs.Answers.{answer-is}
 use Rattle.filing.proofs.Filing.{file-judged, file-answer}
 use Rattle.filing.proofs.Offered.{offer-fits}
 
 module _ (l b : List ℕ) where
-  -- the answer is the first failing check's number
-  pub answer-is : fileOf l b .answer .number ≡ fileAnswer l b
-  unfolding fileOf refusal
-  answer-is = by-test (eqb (fileAnswer l b) 0) (λ t. rw t (sym (eqb-true (fileAnswer l b) 0 t))) (λ t. rw t)
-
-  pub refused-same : (fileOf l b .answer .number ≡ 0 → ⊥) → fileOf l b .ledger ≡ l
-  unfolding fileOf
-  refused-same n = by-test (eqb (fileAnswer l b) 0) (λ t. absurd (n (rw t))) (λ t. rw t)
-
   module _ (e : fileOf l b .answer .number ≡ 0) where
     none : fileAnswer l b ≡ 0
-    none = sym answer-is ∙ e
+    none = sym (answer-is l b) ∙ e
 
     pub filed-judged : judged l ≡ 0
     filed-judged =

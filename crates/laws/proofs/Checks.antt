@@ -1,11 +1,11 @@
--- An answer of 0 says that no check of the list fails.
+-- An answer of 0 says that no check of the list fails; and a call that is done at 0 and refused else has the checks' answer.
 -- Assumes nothing.
 use Prim.Native.Nat.{ℕ}
-use mathlib.Core.Path.{_≡_, refl}
+use mathlib.Core.Path.{_≡_, refl, sym, _∙_}
 use mathlib.Core.Bool.{Bool, true, false, not, cond, _&&_}
 use mathlib.Core.List.{List, [], _∷_, _++_}
 use lib.Dec.{eqb}
-use borrow.Author.Tests.{eqb-false, not-true}
+use borrow.Author.Tests.{eqb-true, eqb-false, not-true}
 use Rattle.laws.specs.Checks.{Check, firstFailing}
 use Rattle.laws.proofs.Bools.{and-left, and-right}
 use Rattle.laws.proofs.Split.{by-test}
@@ -48,3 +48,11 @@ passed-first [] ds h e = refl
 passed-first (c ∷ cs) ds h e =
     let p = passes (c .fails) (c .number) (firstFailing cs) (and-left (not (eqb (c .number) 0)) (numbered cs) h) e in
     rw (p .0) (passed-first cs ds (and-right (not (eqb (c .number) 0)) (numbered cs) h) (p .1))
+
+-- done where the answer is 0, refused with it else: it has that answer; and where that is not 0, it is the refusal
+module _ {R : Type 0} (answer : R → ℕ) (a : ℕ) (done refused : R) (zero : answer done ≡ 0) where
+  pub answered : answer refused ≡ a → answer (cond (eqb a 0) done refused) ≡ a
+  answered e = by-test (eqb a 0) (λ t. rw t (zero ∙ sym (eqb-true a 0 t))) (λ t. rw t e)
+
+  pub is-refusal : (answer (cond (eqb a 0) done refused) ≡ 0 → ⊥) → cond (eqb a 0) done refused ≡ refused
+  is-refusal n = by-test (eqb a 0) (λ t. absurd (n (rw t zero))) (λ t. rw t)

@@ -1,2 +1,3 @@
--- What a read answers and leaves.
+-- What a read answers and leaves. Refusals: exactly where it is refused.
 pub mod Laws
+pub mod Refusals

@@ -1,5 +1,5 @@
 -- Set-up makes a recorder in range with a store of its lengths, every event keeps both, and a refusal keeps all.
--- So such a recorder is never refused with 4 or 5; the blank one always is, with 5.
+-- So such a recorder is never refused with 4 or 5; the blank one always is, with 5. Each is answered by its checks, and carries nothing.
 -- Assumes nothing.
 use Prim.Native.Nat.{ℕ, _+_, _-_, _*_, _/_, _<_, _≤_}
 use mathlib.Core.Bool.{true}
@@ -11,6 +11,7 @@ use borrow.Author.Tests.{leb-true, eq-eqb, ne-eqb, eqb-true, not-false}
 use lib.Dec.{leb, eqb}
 use lib.ListN.{length, getD-replicate}
 use Rattle.calendar.specs.Clock.{secondsOfHalf, halvesOfDay, timesInAll}
+use Rattle.laws.specs.Checks.{firstFailing}
 use Rattle.laws.specs.Tests.{allTrue}
 use Rattle.laws.proofs.Bools.{both}
 use Rattle.laws.proofs.Lists.{set-keeps}
@@ -32,9 +33,9 @@ use Rattle.recorder.specs.declared.SetUp.{SetUp}
 use Rattle.recorder.specs.Recorder.{Recorder, Mem, Event, Count, Clock, Off, On, Access, Meter, Reset, Rate, Reverse, with, capOf, halfOf, todayOf, readingNow}
 use Rattle.recorder.specs.Boundary.{ended, advanceTo, storeAt}
 use Rattle.recorder.specs.Effect.{powerLost, meterChanged, demandCleared, counted, lastIs, rateIs, switchedOff, wasReset, accessed, reversed, firstFlagged, flagToday, flagFrom, after}
-use Rattle.recorder.specs.Answer.{eventAnswer, unitsAfter, answerWith, answerOf}
+use Rattle.recorder.specs.Answer.{checks, eventAnswer, unitsAfter, answerWith, answerOf}
 use Rattle.recorder.specs.Step.{step, run}
-use Rattle.recorder.specs.SetUp.{setUpTests, setUpAnswer, started, fresh, blank, made, setUp}
+use Rattle.recorder.specs.SetUp.{setUpTests, setUpChecks, setUpAnswer, setUpWith, started, fresh, blank, made, setUp}
 use Rattle.recorder.specs.Needs.{Goes}
 use Rattle.recorder.proofs.Answers.{answered, given-answer, accepted-ranges, accepted-fits, accepted-clock, accepted-on}
 use Rattle.recorder.proofs.Boundaries.{stayed, went}
@@ -256,3 +257,21 @@ set-up-blank g x n = rw (ne-eqb (setUpAnswer g x) 0 n)
 pub blank-refused : (x : Store) (e : Event) → step (record { recorder = blank; store = x }) e .answer ≡ 5
 unfolding step answerOf answerWith blank started
 blank-refused x e = refl
+
+-- ---- answers, and what they carry
+
+pub step-answer : (x : Mem) (e : Event) → step x e .answer ≡ firstFailing (checks (x .recorder) e (length (x .store .values)) (length (x .store .starts)) (length (x .store .marks)))
+unfolding step answerOf answerWith
+step-answer x e = refl
+
+pub set-up-answer : (s : SetUp) (x : Store) → setUp s x .answer ≡ firstFailing (setUpChecks s (length (x .values)) (length (x .starts)) (length (x .marks)))
+unfolding setUp setUpWith
+set-up-answer s x = refl
+
+pub step-carries : (x : Mem) (e : Event) → step x e .carried ≡ 0
+unfolding step
+step-carries x e = refl
+
+pub set-up-carries : (s : SetUp) (x : Store) → setUp s x .carried ≡ 0
+unfolding setUp
+set-up-carries s x = refl
