@@ -1,6 +1,6 @@
 -- A block that the reader takes, its header and days handed to the writer, is written again as the same bytes.
 -- Assumes nothing.
-use Prim.Native.Nat.{ℕ, _+_, _-_, _*_, _/_, _%_, _<_, _≤_}
+use Prim.Native.Nat.{ℕ, _+_, _*_, _/_, _%_, _<_, _≤_}
 use mathlib.Core.Path.{_≡_, refl, _∙_}
 use mathlib.Core.Bool.{true, cond}
 use mathlib.Core.List.{List}
@@ -9,7 +9,6 @@ use lib.Dec.{eqb}
 use lib.ListN.{length, getD}
 use lib.Seq.{sets}
 use borrow.Author.Tests.{le-leb, lt-ltb, le-ltb, eq-eqb}
-use Rattle.laws.proofs.Rows.{part-sets}
 use Rattle.laws.proofs.Table.{length-table, table-at}
 use Rattle.calendar.specs.Calendar.{daysInAll}
 use Rattle.calendar.specs.Clock.{halvesOfDay}
@@ -30,7 +29,7 @@ use Rattle.judgement.proofs.Writable.{writable-exact}
 use Rattle.writer.specs.Send.{sent, writeOf}
 use Rattle.writer.proofs.Sent.{send-shaped}
 use Rattle.fields.specs.Views.{hasDay, headerIn, dayGiven, halfGiven}
-use Rattle.assurance.specs.Run.{blockOf}
+use Rattle.fields.proofs.Laws.{header-read}
 use Rattle.assurance.specs.Again.{valuesOf, startsOf, wordsOf}
 
 -- ---- the days of a block, laid out
@@ -44,10 +43,6 @@ module _ (b : List ℕ) (n : ℕ) (vs : List ℕ) (read : parse b ≡ fields n v
 
   days-here : daysIn (length b) ≡ n
   days-here = days-of (length b) n (here .0)
-
-  pub header-here : headerIn b ≡ headerOf vs
-  unfolding headerIn
-  header-here = rw (le-leb 112 (length b) (omega (arith, here .0)), ← here .2)
 
   abbrev v : List ℕ
   v = valuesOf b n
@@ -136,7 +131,4 @@ module _ (b : List ℕ) (n : ℕ) (vs : List ℕ) (read : parse b ≡ fields n v
   -- THE BLOCK AGAIN
   pub written-again : (out : List ℕ) → length b ≤ length out → writeOf (headerIn b) n v s m out ≡ sent (sets out 0 b) (answer 0 (length b))
   written-again out room =
-      rw (header-here, send-shaped (headerOf vs) n (lent n) v s m out shaped-here, writable-here, le-ltb (length out) (blockBytes n) (omega (arith, here .0)), given-here, parse-back b n vs read .0, here .0)
-
-  pub block-again : (out : List ℕ) → length b ≤ length out → blockOf (writeOf (headerIn b) n v s m out) ≡ b
-  block-again out room = rw (written-again out room) (part-sets out 0 b (omega arith))
+      rw (header-read b n vs read, send-shaped (headerOf vs) n (lent n) v s m out shaped-here, writable-here, le-ltb (length out) (blockBytes n) (omega (arith, here .0)), given-here, parse-back b n vs read .0, here .0)

@@ -9,11 +9,11 @@ use mathlib.Core.List.{List, [], _∷_, _++_, List·Memᴰ, List·Memᴰ·head, 
 use native.Mathlib.Omega.{arith}
 use lib.Dec.{eqb}
 use lib.ListN.{length}
-use borrow.Author.Tests.{eqb-true, eq-eqb, le-leb, lt-ltb, not-false}
+use borrow.Author.Tests.{eqb-true, eq-eqb, le-leb, lt-ltb}
 use Rattle.laws.specs.Checks.{check}
 use Rattle.laws.specs.Tests.{sumBelow}
 use Rattle.laws.proofs.Bools.{iff-trans}
-use Rattle.laws.proofs.Checks.{none-fails, passed-first}
+use Rattle.laws.proofs.Checks.{passed-first}
 use Rattle.laws.proofs.Split.{by-test, by-dec}
 use Rattle.laws.proofs.Tests.{sum-same}
 use Rattle.calendar.specs.Clock.{secondsOfHalf, halvesOfDay, endedOn}
@@ -32,8 +32,9 @@ use Rattle.days.proofs.Fold.{reaches, cuts, fit-blocks, run-fresh}
 use Rattle.ledger.specs.Layout.{lengthOf, firstOf, daysOf}
 use Rattle.ledger.specs.Rooms.{slot, pack}
 use Rattle.ledger.specs.Judged.{ledgerChecks, judged}
-use Rattle.ledger.specs.Open.{headOf, openOk, openChecks, openAnswer, openOf}
+use Rattle.ledger.specs.Open.{headOf, openOk, openOf}
 use Rattle.ledger.specs.Asked.{inWindow, asked, daySummary, summaryOf, dayMissing, missingOf}
+use Rattle.ledger.proofs.Answers.{opened-well}
 use Rattle.ledger.proofs.Packed.{fit-of, first-packed, days-packed}
 use Rattle.ledger.proofs.Good.{pack-good}
 use Rattle.ledger.proofs.Opening.{opens-of, head-good, count-good}
@@ -76,17 +77,6 @@ written-append s p (e ∷ earlier) later = written-append s (written s p e) earl
 -- a half-hour of day d has ended where its number is below the running one's
 ended-so : (t d j : ℕ) → j < halvesOfDay → (j < endedOn t d) ↔ (halvesOfDay * d + j < t / secondsOfHalf)
 ended-so t d j few = (λ l. omega (arith, ended-reached t d), λ l. omega (arith, ended-reached t d))
-
--- an accepted opening
-pub opened-well : (l id : List ℕ) (first days : ℕ) → openOf l id first days .answer ≡ 0 → (openOk id first days ≡ true) × (length l ≡ lengthOf days)
-unfolding openOf openAnswer openChecks
-opened-well l id first days e =
-    let a : openAnswer l id first days ≡ 0 = go in
-    let t = none-fails (openChecks l id first days) refl a in
-    (not-false (openOk id first days) (t .0), eqb-true (length l) (lengthOf days) (not-false (eqb (length l) (lengthOf days)) (t .1 .0)))
-  where
-    go : openAnswer l id first days ≡ 0
-    go = by-test (eqb (openAnswer l id first days) 0) (λ t. eqb-true (openAnswer l id first days) 0 t) (λ t. rw t at e)
 
 -- ---- a run of filings with no refusal: each answer is 0, and they carry together what is newly held
 

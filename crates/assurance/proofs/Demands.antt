@@ -14,7 +14,7 @@ use Rattle.judgement.specs.Given.{given}
 use Rattle.writer.specs.Send.{writeOf}
 use Rattle.writer.proofs.Sent.{refused-keeps, sent-bytes, sent-reads}
 use Rattle.writer.proofs.Refusals.{send-carries, send-answer, write-answer}
-use Rattle.ledger.proofs.Answers.{open-answer, open-refused, summary-answer, summary-refused, missing-answer, missing-refused}
+use Rattle.ledger.proofs.Answers.{open-answer, open-leaves, opened-well, summary-answer, summary-empty, missing-answer, missing-empty}
 use Rattle.filing.proofs.Answers.{by-checks, refused-same, refused-carries, differs-number, tells-nothing, no-difference, differs-12}
 use Rattle.lines.proofs.Laws.{listing-stays}
 use Rattle.desk.proofs.ForC.{apart, header-gives, differs-gives, identifier-gives, summary-gives, halves-gives, missing-number, flags-number, window-number, day-again, date-again}
@@ -40,7 +40,7 @@ use Rattle.assurance.proofs.Blocks.{run-events}
 use Rattle.assurance.proofs.Senders.{senders, registers-read, says-read}
 use Rattle.assurance.proofs.Causes.{causes}
 use Rattle.assurance.proofs.Again.{written-again}
-use Rattle.assurance.proofs.Delivered.{opened-well, holds}
+use Rattle.assurance.proofs.Delivered.{holds}
 
 -- ---- demand 1
 
@@ -69,10 +69,10 @@ demand-1 = record {
   hands = hands;
   writes = λ h n v s m out f. refused-keeps h n (lent n) v s m out f;
   sends = refused-keeps;
-  opens = open-refused;
+  opens = open-leaves;
   files = refused-same;
-  summaries = summary-refused;
-  missings = missing-refused;
+  summaries = summary-empty;
+  missings = missing-empty;
   differs = tells-nothing;
   differs-none = no-difference;
   for-c = for-c;

@@ -1,6 +1,6 @@
 -- Every block of a run was sent by one of its reads, and has the time on the recorder's clock at that read, and the days that it asked for.
 -- Assumes nothing.
-use Prim.Native.Nat.{ℕ, _+_, min}
+use Prim.Native.Nat.{ℕ, min}
 use mathlib.Core.Path.{_≡_, refl, ap, _∙_}
 use mathlib.Core.Logic.{_↔_, ⊎-elim}
 use mathlib.Core.List.{List, [], _∷_, _++_, List·Memᴰ, List·Memᴰ·head, List·Memᴰ·tail, List·Memᴰ·not-nil, List·Memᴰ·cases-cons}
@@ -31,10 +31,10 @@ use Rattle.recorder.specs.Recorder.{Mem}
 use Rattle.recorder.specs.Range.{inRange}
 use Rattle.recorder.proofs.Ranges.{Ranges, ranges}
 use Rattle.fields.specs.Views.{headerIn}
+use Rattle.fields.proofs.Laws.{header-read}
 use Rattle.readout.proofs.Laws.{rates-eight}
 use Rattle.readout.specs.Read.{rateSent, headerSent, daysSent, sourceSent, readChecks, readAnswer, readOf}
 use Rattle.assurance.specs.Run.{Call, happens, reads, left, runAll, blockOf, blocksIn, ReadIn, Registers}
-use Rattle.assurance.proofs.Again.{header-here}
 
 -- ---- what an accepted read sends has its time and its days
 
@@ -101,18 +101,18 @@ module _ (asked : ℕ) (x : Mem) (out : List ℕ) (e : readOf asked x out .answe
   in-range : Ranges r
   in-range = ranges r (not-false (inRange r) (fine .1 .1 .0))
 
-  header-read : length (r .identity .identifier) ≡ 12 → headerIn (blockOf (readOf asked x out)) ≡ headerSent r
+  header-told : length (r .identity .identifier) ≡ 12 → headerIn (blockOf (readOf asked x out)) ≡ headerSent r
   unfolding headerSent
-  header-read twelve =
+  header-told twelve =
       let id = r .identity .identifier in
       let bytes = both (goodAt binary id 0 12) (isIdentifier (numAt binary id 0 12)) (ident-ok id 0 ∙ in-range .identity .identifier) .0 in
-      header-here (blockOf (readOf asked x out)) n vs block-parses
+      header-read (blockOf (readOf asked x out)) n vs block-parses
       ∙ header-back (headerSent r) n (daysFrom (sourceSent r) v s m) (rates-eight r) twelve bytes (in-range .clock .time) (in-range .demand .reset)
 
   pub registers-read : length (r .identity .identifier) ≡ 12 → Registers r (headerIn (blockOf (readOf asked x out)))
   unfolding headerSent rateSent
   registers-read twelve =
-      rw (header-read twelve)
+      rw (header-told twelve)
       record {
         identifier = refl;
         time = refl;

@@ -1,4 +1,4 @@
--- An answer of 0 says that no check of the list fails; and a call that is done at 0 and refused else has the checks' answer.
+-- An answer of 0 says that no check of the list fails; and what is done at 0 and refused else is answered by just that number.
 -- Assumes nothing.
 use Prim.Native.Nat.{ℕ}
 use mathlib.Core.Path.{_≡_, refl, sym, _∙_}

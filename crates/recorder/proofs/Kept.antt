@@ -1,5 +1,5 @@
 -- Set-up makes a recorder in range with a store of its lengths, every event keeps both, and a refusal keeps all.
--- So such a recorder is never refused with 4 or 5; the blank one always is, with 5. Each is answered by its checks, and carries nothing.
+-- So such a recorder is never refused with 4 or 5; the blank one always is, with 5. Set-up and events are answered by their checks, and carry nothing.
 -- Assumes nothing.
 use Prim.Native.Nat.{ℕ, _+_, _-_, _*_, _/_, _<_, _≤_}
 use mathlib.Core.Bool.{true}
