@@ -1,7 +1,7 @@
 -- The three demands.
 -- Assumes nothing.
 use Prim.Native.Nat.{ℕ}
-use mathlib.Core.Path.{_≡_, ap, _∙_}
+use mathlib.Core.Path.{_≡_, refl, sym, ap, _∙_}
 use mathlib.Core.List.{List}
 use lib.ListN.{length, take}
 use Rattle.block.specs.declared.Answer.{Answer}
@@ -26,7 +26,8 @@ use Rattle.recorder.specs.Step.{run}
 use Rattle.recorder.specs.SetUp.{setUp}
 use Rattle.recorder.proofs.Kept.{refused, set-up-blank, blank-refused, step-answer, set-up-answer, step-carries, set-up-carries}
 use Rattle.readout.specs.Read.{readOf}
-use Rattle.readout.proofs.Refusals.{read-answer, read-carries, read-refused, hands, blank-read}
+use Rattle.readout.proofs.Laws.{handed-back}
+use Rattle.readout.proofs.Refusals.{read-answer, read-carries, read-refused, blank-read}
 use Rattle.assurance.specs.Written.{paper}
 use Rattle.assurance.specs.Sent.{daysDue, fieldsDue, blockDue, sentDue}
 use Rattle.assurance.specs.Run.{Call, runAll, eventsOf, blockOf}
@@ -66,8 +67,7 @@ demand-1 = record {
   set-up = set-up-blank;
   steps = refused;
   reads = read-refused;
-  hands = hands;
-  writes = λ h n v s m out f. refused-keeps h n (lent n) v s m out f;
+  hands = λ asked x out. sym (handed-back asked x out (readOf asked x out .out) (readOf asked x out .answer) refl);
   sends = refused-keeps;
   opens = open-leaves;
   files = refused-same;
@@ -128,7 +128,6 @@ demand-2 = record {
   says = says-read;
   header = λ asked x out twelve e. registers-read asked x out e twelve;
   writes = writes;
-  back = accepted-reads;
   again = λ b n vs e. parse-back b n vs e .0;
   rewrites = λ b n vs out e room. written-again b n vs e out room;
 }

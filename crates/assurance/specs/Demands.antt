@@ -51,14 +51,13 @@ Refused number = number ≡ 0 → ⊥
 
 -- Demand 1: whatever is given, a refusal changes nothing, and is given only with cause. (That every call answers is its contract, which asks nothing.)
 pub record Demand1 : Type 0 where
-  -- a refusal hands back the recorder given, and store, ledger and output hold the bytes they held: set-up, events, reads, the writer of given days and of the
-  -- store's, opening, filing. A refused set-up gives the blank recorder; a read (`readBack`: `readOf` with the recorder) hands back the one that it was given, refused or not
+  -- a refusal hands back the recorder given, and store, ledger and output hold the bytes they held: set-up, events, reads, the writer (`writeOf` is `sendOf` of given
+  -- days), opening, filing. A refused set-up gives the blank recorder; a read (`readBack`: `readOf` with the recorder) hands back the one that it was given, refused or not
   pub set-up : (s : SetUp) (x : Store) → Refused (setUp s x .answer) → setUp s x .after ≡ record { recorder = blank; store = x }
   pub steps : (x : Mem) (e : Event) → Refused (step x e .answer) → step x e .after ≡ x
   pub reads : (asked : ℕ) (x : Mem) (out : List ℕ) → Refused (readOf asked x out .answer .number) → readOf asked x out .out ≡ out
   pub hands : (asked : ℕ) (x : Mem) (out : List ℕ) → let a = readOf asked x out .answer in
       readBack asked x out ≡ readDone (record { recorder = x .recorder; answer = a .number; carried = a .carried }) (readOf asked x out .out)
-  pub writes : (h : Header) (n : ℕ) (v s m out : List ℕ) → Refused (writeOf h n v s m out .answer .number) → writeOf h n v s m out .out ≡ out
   pub sends : (h : Header) (n : ℕ) (from : Source) (v s m out : List ℕ) → Refused (sendOf h n from v s m out .answer .number) → sendOf h n from v s m out .out ≡ out
   pub opens : (l id : List ℕ) (first days : ℕ) → Refused (openOf l id first days .answer) → openOf l id first days .ledger ≡ l
   pub files : (l b : List ℕ) → Refused (fileOf l b .answer .number) → fileOf l b .ledger ≡ l
@@ -121,8 +120,7 @@ pub record Demand2 : Type 0 where
   -- a block written from given fields reads back as these
   pub writes : (h : Header) (n : ℕ) (v s m out : List ℕ) → length (h .rates) ≡ rateCount → writeOf h n v s m out .answer .number ≡ 0
       → parse (blockOf (writeOf h n v s m out)) ≡ fields n (given h n (daysFrom (lent n) v s m))
-  -- so does any block of acceptable fields; and one that is read, written again from its fields, is the same bytes
-  pub back : (n : ℕ) (vs : List ℕ) → acceptable n vs ≡ true → parse (renderBlock n vs) ≡ fields n vs
+  -- (so does any block of acceptable fields: `refuses`, above); and one that is read, written again from its fields, is the same bytes
   pub again : (b : List ℕ) (n : ℕ) (vs : List ℕ) → parse b ≡ fields n vs → renderBlock n vs ≡ b
   -- by the writer itself: its header and days, as `fields` gives them, are answered 0 with the very same bytes, and no other byte of the output moves
   pub rewrites : (b : List ℕ) (n : ℕ) (vs out : List ℕ) → parse b ≡ fields n vs → length b ≤ length out
