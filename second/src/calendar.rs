@@ -1,22 +1,32 @@
 //! Time in whole seconds from 2000-01-01 00:00:00 UTC to the end of 2099, days by
 //! number, half-hours, and the digits in which blocks and scripts write them.
 
-pub const SECONDS_PER_DAY: u64 = 86_400;
-pub const SECONDS_PER_HALF_HOUR: u64 = 1_800;
+/// The half-hours of a day.
 pub const HALF_HOURS: usize = 48;
+pub const SECONDS_PER_DAY: u64 = HOURS * SECONDS_PER_HOUR;
+pub const SECONDS_PER_HALF_HOUR: u64 = SECONDS_PER_DAY / HALF_HOURS as u64;
 /// Days from 2000-01-01 to 2099-12-31, both included.
-pub const DAYS: u64 = 36_525;
+pub const DAYS: u64 = days_before(YEARS);
+pub const LAST_DAY: u64 = DAYS - 1;
 pub const LAST_TIME: u64 = DAYS * SECONDS_PER_DAY - 1;
+/// The digits of `YYMMDD`, and of `YYMMDDhhmmss`.
+pub const DATE_DIGITS: usize = 6;
+pub const TIME_DIGITS: usize = DATE_DIGITS + SECONDS_DIGITS;
 
 const YEARS: u64 = 100;
 const MONTHS: u64 = 12;
+const HOURS: u64 = 24;
+const MINUTES: u64 = 60;
+const SECONDS: u64 = 60;
+const SECONDS_PER_HOUR: u64 = MINUTES * SECONDS;
+const SECONDS_DIGITS: usize = 6;
 
 /// In 2000 to 2099 every fourth year is a leap year, 2000 among them.
-fn is_leap(year: u64) -> bool {
+const fn is_leap(year: u64) -> bool {
     year % 4 == 0
 }
 
-fn year_length(year: u64) -> u64 {
+const fn year_length(year: u64) -> u64 {
     if is_leap(year) {
         366
     } else {
@@ -33,14 +43,24 @@ fn month_length(year: u64, month: u64) -> u64 {
     }
 }
 
+/// The days of all years before a year.
+const fn days_before(year: u64) -> u64 {
+    let mut days = 0;
+    let mut earlier = 0;
+    while earlier < year {
+        days += year_length(earlier);
+        earlier += 1;
+    }
+    days
+}
+
 /// The day number of a date, or nothing where the date is unreal.
 pub fn day_number(year: u64, month: u64, day: u64) -> Option<u64> {
     if year >= YEARS || month < 1 || month > MONTHS || day < 1 || day > month_length(year, month) {
         return None;
     }
-    let years: u64 = (0..year).map(year_length).sum();
     let months: u64 = (1..month).map(|m| month_length(year, m)).sum();
-    Some(years + months + day - 1)
+    Some(days_before(year) + months + day - 1)
 }
 
 /// Year, month and day of a day number; a number past the calendar runs on into later years.
@@ -87,9 +107,14 @@ pub fn digits(text: &[u8]) -> Option<u64> {
     Some(number)
 }
 
+/// Writes a number in so many digits, with leading zeros.
+pub fn write_digits(number: u64, digits: usize) -> String {
+    format!("{number:0digits$}")
+}
+
 /// Reads `YYMMDD`.
 pub fn read_date(text: &[u8]) -> Option<u64> {
-    if text.len() != 6 {
+    if text.len() != DATE_DIGITS {
         return None;
     }
     let number = digits(text)?;
@@ -98,21 +123,21 @@ pub fn read_date(text: &[u8]) -> Option<u64> {
 
 /// Reads `hhmmss` as seconds of the day.
 pub fn read_seconds(text: &[u8]) -> Option<u64> {
-    if text.len() != 6 {
+    if text.len() != SECONDS_DIGITS {
         return None;
     }
     let number = digits(text)?;
     let (hours, minutes, seconds) = (number / 10_000, number / 100 % 100, number % 100);
-    if hours > 23 || minutes > 59 || seconds > 59 {
+    if hours >= HOURS || minutes >= MINUTES || seconds >= SECONDS {
         return None;
     }
-    Some(hours * 3_600 + minutes * 60 + seconds)
+    Some(hours * SECONDS_PER_HOUR + minutes * SECONDS + seconds)
 }
 
 /// Reads `YYMMDDhhmmss`.
 pub fn read_time(text: &[u8]) -> Option<u64> {
-    let day = read_date(text.get(..6)?)?;
-    let seconds = read_seconds(text.get(6..)?)?;
+    let day = read_date(text.get(..DATE_DIGITS)?)?;
+    let seconds = read_seconds(text.get(DATE_DIGITS..)?)?;
     Some(day * SECONDS_PER_DAY + seconds)
 }
 
@@ -125,7 +150,7 @@ pub fn write_date(number: u64) -> String {
 /// Writes `hhmmss`.
 pub fn write_seconds(time: u64) -> String {
     let seconds = time % SECONDS_PER_DAY;
-    format!("{:02}{:02}{:02}", seconds / 3_600, seconds / 60 % 60, seconds % 60)
+    format!("{:02}{:02}{:02}", seconds / SECONDS_PER_HOUR, seconds / SECONDS % MINUTES, seconds % SECONDS)
 }
 
 /// Writes `YYMMDDhhmmss`.
@@ -139,6 +164,8 @@ mod tests {
 
     #[test]
     fn the_last_second() {
+        assert_eq!(DAYS, 36_525);
+        assert_eq!(write_date(LAST_DAY), "991231");
         assert_eq!(LAST_TIME, 3_155_759_999);
         assert_eq!(write_time(LAST_TIME), "991231235959");
         assert_eq!(read_time(b"991231235959"), Some(LAST_TIME));

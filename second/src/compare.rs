@@ -214,7 +214,17 @@ impl Blocks {
         let mut followed = accepted.cloned().unwrap_or_default();
         followed.push(b'\n');
         list.push(followed);
-        for length in [0, 1, 111, 112, 22_012, 22_013, 98_881, 1_000_000] {
+        let lengths = [
+            0,
+            1,
+            block::HEADER_BYTES - 1,
+            block::HEADER_BYTES,
+            listing::MOST_BYTES,
+            listing::MOST_BYTES + 1,
+            block::bytes_for(block::MOST_DAYS + 1),
+            1_000_000,
+        ];
+        for length in lengths {
             list.push(vec![0; length]);
         }
         list

@@ -1,44 +1,56 @@
 //! The coverage table: how often each kind of call gave each answer number in the
 //! scripts of one round, and which answers that the rules allow were not reached.
 
+use crate::answer::*;
+use crate::block::*;
+use crate::calendar::HALF_HOURS;
 use crate::lives;
+use crate::quantities::{KWH_DIGITS, VALUE_DIGITS};
 use crate::script;
 use std::collections::{BTreeMap, BTreeSet};
 
-const ANSWERS: usize = 13;
+const ANSWERS: u32 = CONFLICT + 1;
+
+const ANY_EVENT: &[u32] = &[DONE, WRONG_POWER, WRONG_LENGTH, DAMAGED];
+const TIMED: &[u32] = &[DONE, WRONG_POWER, WRONG_TIME, WRONG_LENGTH, DAMAGED];
+const READER: &[u32] = &[DONE, NOT_A_BLOCK, WRONG_FIELD, NOT_CONSISTENT];
+const FILING: &[u32] =
+    &[DONE, WRONG_LENGTH, DAMAGED, NOT_A_BLOCK, WRONG_FIELD, NOT_CONSISTENT, OTHER_IDENTIFIER, CONFLICT];
+const ASKED_DAY: &[u32] = &[DONE, WRONG_LENGTH, DAMAGED, OUT_OF_RANGE];
 
 /// Each call and the answer numbers that the rules allow it. Opening is always lent the right
-/// length by a script, so its 4 can't be reached there.
-const ALLOWED: [(&str, &[usize]); 20] = [
-    ("setup", &[0, 4, 6]),
-    ("count", &[0, 1, 3, 4, 5]),
-    ("clock", &[0, 1, 2, 4, 5]),
-    ("off", &[0, 1, 4, 5]),
-    ("on", &[0, 1, 2, 4, 5]),
-    ("access", &[0, 1, 4, 5]),
-    ("meter", &[0, 1, 4, 5]),
-    ("reset", &[0, 1, 4, 5]),
-    ("rate", &[0, 1, 4, 5, 6]),
-    ("reverse", &[0, 1, 4, 5]),
-    ("read", &[0, 1, 4, 5, 6, 7]),
-    ("write", &[0, 5, 7]),
-    ("check", &[0, 8, 9, 10]),
-    ("fields", &[0, 8, 9, 10]),
-    ("listing", &[0, 8, 9, 10]),
-    ("open", &[0, 6]),
-    ("file", &[0, 4, 5, 8, 9, 10, 11, 12]),
-    ("deliver", &[0, 4, 5, 8, 9, 10, 11, 12]),
-    ("summary", &[0, 4, 5, 6]),
-    ("missing", &[0, 4, 5, 6]),
+/// length by a script, so its refusal of a wrong one can't be reached there.
+const ALLOWED: [(&str, &[u32]); 20] = [
+    ("setup", &[DONE, WRONG_LENGTH, OUT_OF_RANGE]),
+    ("count", &[DONE, WRONG_POWER, TOO_MANY_UNITS, WRONG_LENGTH, DAMAGED]),
+    ("clock", TIMED),
+    ("off", ANY_EVENT),
+    ("on", TIMED),
+    ("access", ANY_EVENT),
+    ("meter", ANY_EVENT),
+    ("reset", ANY_EVENT),
+    ("rate", &[DONE, WRONG_POWER, WRONG_LENGTH, DAMAGED, OUT_OF_RANGE]),
+    ("reverse", ANY_EVENT),
+    ("read", &[DONE, WRONG_POWER, WRONG_LENGTH, DAMAGED, OUT_OF_RANGE, OUTPUT_SHORT]),
+    ("write", &[DONE, DAMAGED, OUTPUT_SHORT]),
+    ("check", READER),
+    ("fields", READER),
+    ("listing", READER),
+    ("open", &[DONE, OUT_OF_RANGE]),
+    ("file", FILING),
+    ("deliver", FILING),
+    ("summary", ASKED_DAY),
+    ("missing", ASKED_DAY),
 ];
 
-/// The offsets of the fields of a block of two days: answer 9 is to be given at each.
+/// The offsets of the fields of a block of two days: a wrong field is to be refused at each.
 fn field_offsets() -> BTreeSet<String> {
-    let mut offsets: Vec<usize> = vec![5, 17, 29, 35, 41, 47, 53, 59, 109];
-    offsets.extend((0..8).map(|rate| 61 + 6 * rate));
-    for record in [112, 331] {
-        offsets.extend([record, record + 6, record + 14]);
-        offsets.extend((0..48).map(|half_hour| record + 15 + 4 * half_hour));
+    let mut offsets =
+        vec![AT_IDENTIFIER, AT_TIME, AT_KWH, AT_CURRENT, AT_PREVIOUS, AT_CUMULATIVE, AT_RESET, AT_RESETS, AT_NUMBER];
+    offsets.extend((0..RATES).map(|rate| AT_REGISTERS + KWH_DIGITS * rate));
+    for record in [bytes_for(0), bytes_for(1)] {
+        offsets.extend([record, record + DAY_START, record + DAY_FLAGS]);
+        offsets.extend((0..HALF_HOURS).map(|half_hour| record + DAY_VALUES + VALUE_DIGITS * half_hour));
     }
     offsets.iter().map(usize::to_string).collect()
 }
@@ -46,7 +58,7 @@ fn field_offsets() -> BTreeSet<String> {
 #[derive(Default)]
 struct Coverage {
     /// Call and answer number.
-    answers: BTreeMap<(String, usize), u64>,
+    answers: BTreeMap<(String, u32), u64>,
     /// Lines that could not be understood, by their first word.
     not_understood: BTreeMap<String, u64>,
     /// Other commands.
@@ -64,18 +76,18 @@ impl Coverage {
             *self.others.entry(call).or_default() += 1;
         } else {
             let number = if call == "listing" {
-                answer.strip_prefix("REFUSED ").map_or(0, |number| number.parse().unwrap_or(ANSWERS))
+                answer.strip_prefix("REFUSED ").map_or(DONE, |number| number.parse().unwrap_or(ANSWERS))
             } else {
                 answer.split(' ').next().and_then(|number| number.parse().ok()).unwrap_or(ANSWERS)
             };
-            if let Some(offset) = answer.strip_prefix("9 ").filter(|_| call == "check") {
-                self.offsets.insert(offset.to_string());
+            if call == "check" && number == WRONG_FIELD {
+                self.offsets.extend(answer.split(' ').nth(1).map(str::to_string));
             }
             *self.answers.entry((call, number)).or_default() += 1;
         }
     }
 
-    fn count(&self, call: &str, number: usize) -> u64 {
+    fn count(&self, call: &str, number: u32) -> u64 {
         self.answers.get(&(call.to_string(), number)).copied().unwrap_or(0)
     }
 }
@@ -117,7 +129,7 @@ pub fn cover(seed: u64) -> bool {
     println!("lines not understood: {not_understood}");
     let fields = field_offsets();
     let reached = fields.intersection(&coverage.offsets).count();
-    println!("fields of a two-day block refused with 9: {reached} of {}", fields.len());
+    println!("fields of a two-day block refused with {WRONG_FIELD}: {reached} of {}", fields.len());
     println!("scripts: {}, bytes: {}", scripts.len(), scripts.iter().map(|script| script.text.len()).sum::<usize>());
     right && reached == fields.len()
 }

@@ -2,23 +2,32 @@
 //! its next line can follow from where it stands; the seed alone decides it.
 
 mod boundaries;
+mod conflicts;
 mod damage;
 mod hostile;
 mod lines;
 mod ordinary;
 mod writer;
 
+use crate::block::{DEMAND_RESET, FLAGS, RATES};
 use crate::calendar;
+use crate::quantities::{MOST_UNITS, TOTAL_MODULUS, WATT_HOURS_PER_UNIT};
 use crate::random::Random;
-use crate::recorder::{Class, StoreLength};
-use crate::script::Player;
+use crate::recorder::{Class, StoreLength, LEAST_WEIGHT, MOST_WEIGHT};
+use crate::script::{Player, MOST_SCRIPT_BYTES};
 
 /// The example's identifier, and another.
 pub const IDENTIFIER: &str = "ABCX24000017";
 pub const OTHER_IDENTIFIER: &str = "ABCX24000018";
 
 /// Below the most that a script may have, with room for a last long line.
-const FULL_SCRIPT: usize = 1_700_000;
+const FULL_SCRIPT: usize = MOST_SCRIPT_BYTES - 300_000;
+
+/// Most lives begin by this day, so that they can fill the longest store within the calendar.
+const LATEST_START: u64 = calendar::DAYS - Class::D.days() as u64 - 75;
+
+/// The greatest number of 32 bits.
+const MOST_32_BITS: u64 = u32::MAX as u64;
 
 pub struct Script {
     pub name: String,
@@ -46,7 +55,7 @@ const KINDS: [(Generator, u64); 19] = [
     (damage::blocks, 2),
     (damage::sizes, 1),
     (damage::ledgers, 1),
-    (damage::conflicts, 2),
+    (conflicts::conflicts, 2),
     (lines::garbled, 2),
 ];
 
@@ -148,8 +157,8 @@ impl Life {
     /// The most pulses that the running half-hour still takes.
     fn pulses_left(&self) -> u64 {
         let r = &self.player.recorder;
-        let units = (r.total / 10 + 100_000_000 - r.base) % 100_000_000;
-        let watt_hours = (9_999_u64.saturating_sub(units)) * 10 + 9 - r.total % 10;
+        let units = MOST_UNITS.saturating_sub(r.running_units());
+        let watt_hours = (units + 1) * WATT_HOURS_PER_UNIT - 1 - r.total % WATT_HOURS_PER_UNIT;
         watt_hours.checked_div(r.weight).unwrap_or(0)
     }
 
@@ -164,23 +173,28 @@ impl Life {
         self.say(format!("missing {day}"));
     }
 
+    fn random_flags(&mut self) -> u64 {
+        DEMAND_RESET * self.random.below(FLAGS / DEMAND_RESET + 1)
+    }
+
     fn lend(&mut self, length: StoreLength) {
         self.say(format!("lend {} {} {}", length.values, length.starts, length.marks));
     }
 
     /// A fresh recorder with a few days behind it, power on, marks and flags among them.
     fn lived(&mut self, class: Class, days: u64) {
-        let start = self.random.between(600, 36_000) * calendar::SECONDS_PER_DAY + self.random.below(80_000);
-        let weight = self.random.between(1, 100);
-        let total = self.random.below(1_000_000_000);
+        let start = self.random.between(600, LATEST_START) * calendar::SECONDS_PER_DAY + self.random.below(80_000);
+        let weight = self.random.between(LEAST_WEIGHT, MOST_WEIGHT);
+        let total = self.random.below(TOTAL_MODULUS);
         let counter = self.random.bits() as u32;
         self.set_up(class, weight, start, total, counter);
         let end = start + days * calendar::SECONDS_PER_DAY;
         while self.time() < end {
             let pulses = self.random.below(self.pulses_left() / 3 + 2);
             self.pulses(pulses);
-            let event =
-                *self.random.pick(&["access", "reverse", "reset", "rate 2", "meter 77", "rate 8", "#", "#", "#", "#"]);
+            let last_rate = format!("rate {RATES}");
+            let events = ["access", "reverse", "reset", "rate 2", "meter 77", &last_rate, "#", "#", "#", "#"];
+            let event = *self.random.pick(&events);
             self.say(event);
             let time = (self.time() + self.random.between(1_000, 20_000)).min(end);
             self.clock(time);
@@ -195,6 +209,11 @@ fn letter(class: Class) -> &'static str {
         Class::C => "c",
         Class::D => "d",
     }
+}
+
+/// A write into an output of so many bytes.
+fn write_into(room: usize) -> String {
+    format!("write {room}")
 }
 
 /// The nine events at their plainest, at a present time.

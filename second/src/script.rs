@@ -4,6 +4,7 @@
 mod words;
 
 use words::*;
+pub use words::{MOST_DIGITS, MOST_NUMBER};
 
 use crate::answer::{Answer, DONE};
 use crate::block::{self, Day, Fields, Header};
@@ -17,7 +18,6 @@ use crate::recorder::{self, Class, Event, Recorder, SetUp, Store, StoreLength, B
 pub const MOST_SCRIPT_BYTES: usize = 2_000_000;
 pub const KEPT_BLOCKS: usize = 32;
 pub const LONGEST_STORE: StoreLength = Class::D.store_length();
-pub const MOST_LEDGER_BYTES: usize = ledger::bytes_for(ledger::MOST_DAYS as usize);
 
 /// All that a script works on.
 pub struct Player {
@@ -163,7 +163,7 @@ impl Player {
                 print_done(0)
             }
             [b"lend", b"ledger", n] => {
-                let n = number_up_to(n, MOST_LEDGER_BYTES)?;
+                let n = number_up_to(n, ledger::MOST_BYTES)?;
                 self.ledger.resize(n, 0);
                 print_done(0)
             }

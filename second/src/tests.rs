@@ -7,12 +7,13 @@ mod order;
 use crate::answer::{Answer, DAMAGED, OUT_OF_RANGE, TOO_MANY_UNITS, WRONG_LENGTH, WRONG_POWER, WRONG_TIME};
 use crate::block::{self, Day, Header};
 use crate::calendar;
+use crate::identifier::Identifier;
 use crate::ledger;
 use crate::listing;
-use crate::recorder::{self, Class, Event, Recorder, SetUp, Store, BLANK};
+use crate::recorder::{self, Class, Event, Recorder, SetUp, Store, StoreLength, BLANK};
 use crate::script::{self, Player};
 
-const IDENTIFIER: [u8; 12] = *b"ABCX24000017";
+const IDENTIFIER: Identifier = *b"ABCX24000017";
 
 /// A recorder beside memory for its store.
 struct Outstation {
@@ -174,10 +175,20 @@ fn a_read_of_450_days() {
     assert_eq!(block[..5], [0, 1, 0x81, 0x62, 1]);
     assert_eq!(block::check(&block), Answer::done(450));
     assert_eq!(listing::listing(&block), "REFUSED 8\n");
-    let mut longer = block.clone();
-    longer.extend_from_slice(&block[98_662 - 219..]);
-    longer[..4].copy_from_slice(&98_877_u32.to_be_bytes());
-    assert_eq!(block::check(&longer), Answer::refused(8));
+}
+
+#[test]
+fn the_lengths_of_the_pages() {
+    assert_eq!(block::bytes_for(1), 331);
+    assert_eq!(block::MOST_BYTES, 98_662);
+    assert_eq!(listing::MOST_BYTES, 22_012);
+    assert_eq!(ledger::bytes_for(0), 16);
+    assert_eq!(ledger::bytes_for(1), 130);
+    assert_eq!(ledger::MOST_BYTES, 51_316);
+    let lengths = [(960, 20, 60), (4_800, 100, 300), (12_000, 250, 750), (21_600, 450, 1_350)];
+    for (class, (values, starts, marks)) in Class::ALL.into_iter().zip(lengths) {
+        assert_eq!(class.store_length(), StoreLength { values, starts, marks });
+    }
 }
 
 #[test]

@@ -1,9 +1,20 @@
 //! Lives at every boundary: of half-hours, days, years and the calendar, of units,
 //! totals, counters, demands and counts, and of a class's days.
 
-use super::{Life, Script, IDENTIFIER};
-use crate::calendar::{self, LAST_TIME, SECONDS_PER_DAY, SECONDS_PER_HALF_HOUR};
-use crate::recorder::Class;
+use super::{write_into, Life, Script, IDENTIFIER, LATEST_START};
+use crate::block::{bytes_for, MOST_BYTES, RATES};
+use crate::calendar::{self, write_date, HALF_HOURS, LAST_DAY, LAST_TIME, SECONDS_PER_DAY, SECONDS_PER_HALF_HOUR};
+use crate::ledger;
+use crate::quantities::{
+    DEMAND_MODULUS, MOST_UNITS, RESETS_MODULUS, TOTAL_MODULUS, VALUE_MODULUS, WATT_HOURS_PER_KWH, WATT_HOURS_PER_UNIT,
+};
+use crate::recorder::{Class, LEAST_WEIGHT, MOST_ASKED, MOST_WEIGHT};
+use crate::script::{KEPT_BLOCKS, MOST_NUMBER};
+
+/// A total at half a unit below the run-round.
+const LATE_TOTAL: u64 = TOTAL_MODULUS - WATT_HOURS_PER_UNIT / 2;
+/// The watt-hours of the first units that no half-hour takes.
+const FULL_HALF_HOUR: u64 = VALUE_MODULUS * WATT_HOURS_PER_UNIT;
 
 fn instant(text: &str) -> u64 {
     calendar::read_time(text.as_bytes()).unwrap_or(0)
@@ -47,7 +58,7 @@ pub fn instants(seed: u64) -> Script {
     for boundary in boundaries.map(instant) {
         for before in [1, 2, SECONDS_PER_HALF_HOUR, SECONDS_PER_HALF_HOUR - 1, SECONDS_PER_DAY + 5] {
             let Some(start) = boundary.checked_sub(before) else { continue };
-            let total = life.random.below(1_000_000_000);
+            let total = life.random.below(TOTAL_MODULUS);
             life.set_up(Class::A, 10, start, total, 0);
             for time in [boundary - 1, boundary, boundary + 1] {
                 let pulses = life.random.below(500);
@@ -109,13 +120,27 @@ pub fn instants(seed: u64) -> Script {
     life.finish("boundary instants")
 }
 
-/// Exactly 9,999 and 10,000 units, with every remainder under 10 Wh and several weights.
+/// Exactly the most units and one more, with remainders under a unit and several weights.
 pub fn units(seed: u64) -> Script {
     let mut life = Life::new(seed);
     let start = instant("240229110000");
-    for weight in [1, 2, 3, 7, 10, 11, 50, 99, 100] {
-        for total in [0, 1, 5, 9, 10, 99_990, 999_999_995, 999_999_990, 999_999_999, 999_900_001, 123_456_789] {
-            for counter in [0, 4_294_967_290, 2_147_483_647] {
+    let unit = WATT_HOURS_PER_UNIT;
+    let totals = [
+        0,
+        1,
+        unit / 2,
+        unit - 1,
+        unit,
+        MOST_UNITS * unit,
+        LATE_TOTAL,
+        TOTAL_MODULUS - unit,
+        TOTAL_MODULUS - 1,
+        TOTAL_MODULUS - FULL_HALF_HOUR + 1,
+        123_456_789,
+    ];
+    for weight in [LEAST_WEIGHT, 2, 3, 7, unit, 11, 50, MOST_WEIGHT - 1, MOST_WEIGHT] {
+        for total in totals {
+            for counter in [0, u32::MAX - 5, u32::MAX / 2] {
                 life.set_up(Class::A, weight, start, total, counter);
                 let left = life.pulses_left();
                 life.pulses(left + 1);
@@ -136,9 +161,14 @@ pub fn units(seed: u64) -> Script {
     for line in ["setup ABCX24000017 a 10 240229 110000 0 4294967290", "count 5", "show", "count 5", "show"] {
         life.say(line);
     }
-    for (total, weight, pulses) in
-        [(0, 10, 9_999), (0, 10, 10_000), (9, 1, 99_990), (9, 1, 99_991), (0, 1, 99_999), (0, 1, 100_000)]
-    {
+    for (total, weight, pulses) in [
+        (0, unit, MOST_UNITS),
+        (0, unit, MOST_UNITS + 1),
+        (unit - 1, 1, MOST_UNITS * unit),
+        (unit - 1, 1, MOST_UNITS * unit + 1),
+        (0, 1, FULL_HALF_HOUR - 1),
+        (0, 1, FULL_HALF_HOUR),
+    ] {
         life.set_up(Class::A, weight, start, total, 0);
         life.pulses(pulses);
         life.say("show");
@@ -149,13 +179,13 @@ pub fn units(seed: u64) -> Script {
 /// Totals, registers, counters, demands and the reset count run round.
 pub fn run_rounds(seed: u64) -> Script {
     let mut life = Life::new(seed);
-    // Every half-hour at its most: demands of 19,998, reset and summed past 999,999.
-    life.set_up(Class::A, 10, instant("071231000000"), 999_999_995, 4_294_900_000);
+    // Every half-hour at its most: its demand reset, and summed past the run-round.
+    life.set_up(Class::A, 10, instant("071231000000"), LATE_TOTAL, 4_294_900_000);
     for half_hour in 0..120 {
         let left = life.pulses_left();
         life.pulses(left);
         if half_hour % 7 == 3 {
-            let rate = life.random.between(1, 8);
+            let rate = life.random.between(1, RATES as u64);
             life.say(format!("rate {rate}"));
         }
         let time = life.time() + SECONDS_PER_HALF_HOUR;
@@ -164,9 +194,10 @@ pub fn run_rounds(seed: u64) -> Script {
     }
     life.say_all(&["read 3", "check", "listing", "block"]);
     // Registers about their run-round.
-    for rate in 1..=8 {
+    let below = [1, WATT_HOURS_PER_UNIT, WATT_HOURS_PER_KWH, TOTAL_MODULUS];
+    for rate in 1..=RATES {
         life.say(format!("rate {rate}"));
-        for register in [999_999_999, 999_999_990, 999_999_000, 0] {
+        for register in below.map(|below| TOTAL_MODULUS - below) {
             life.say(format!("poke register {rate} {register}"));
             for pulses in [0, 1, 5, 100] {
                 life.pulses(pulses);
@@ -177,24 +208,30 @@ pub fn run_rounds(seed: u64) -> Script {
         life.clock(time);
     }
     // Demands and the count at their ends.
-    for (cumulative, current, resets) in
-        [(999_999, 2, 99), (999_999, 999_999, 99), (0, 0, 0), (999_998, 1, 98), (500_000, 500_000, 50)]
-    {
+    let (demand, count) = (DEMAND_MODULUS, RESETS_MODULUS);
+    for (cumulative, current, resets) in [
+        (demand - 1, 2, count - 1),
+        (demand - 1, demand - 1, count - 1),
+        (0, 0, 0),
+        (demand - 2, 1, count - 2),
+        (demand / 2, demand / 2, count / 2),
+    ] {
         life.say(format!("poke summed {cumulative}"));
         life.say(format!("poke current {current}"));
         life.say(format!("poke resets {resets}"));
         life.say_all(&["reset", "show", "read 1", "block"]);
     }
-    // Small advances round the last four digits and the last eight.
-    for total in [999_999_995, 99_985, 999_999_000, 90] {
-        life.set_up(Class::A, 10, instant("240228230000"), total, 4_294_967_295);
+    // Small advances round a value and a reading.
+    let unit = WATT_HOURS_PER_UNIT;
+    for total in [LATE_TOTAL, FULL_HALF_HOUR - unit * 3 / 2, TOTAL_MODULUS - WATT_HOURS_PER_KWH, 9 * unit] {
+        life.set_up(Class::A, 10, instant("240228230000"), total, u32::MAX);
         for _ in 0..60 {
             let pulses = life.random.below(30);
             life.pulses(pulses);
             let time = life.time() + life.random.between(300, 2_400);
             life.clock(time);
         }
-        life.say_all(&["show", "read 3", "check", "listing", "fields", "write 98662", "block"]);
+        life.say_all(&["show", "read 3", "check", "listing", "fields", &write_into(MOST_BYTES), "block"]);
     }
     life.finish("boundary run-rounds")
 }
@@ -202,9 +239,10 @@ pub fn run_rounds(seed: u64) -> Script {
 /// Days of a class full and overrun, by days one at a time and by outages longer than the ring.
 pub fn rings(seed: u64) -> Script {
     let mut life = Life::new(seed);
+    let [a, b, c, d] = Class::ALL.map(|class| class.days() as u64);
     let first = life.random.between(0, 30_000);
     life.set_up(Class::A, 10, first * SECONDS_PER_DAY + 7_000, 5_000_000, 0);
-    for day in 0..45 {
+    for day in 0..2 * a + 5 {
         for _ in 0..3 {
             let pulses = life.random.below(3_000);
             life.pulses(pulses);
@@ -213,39 +251,40 @@ pub fn rings(seed: u64) -> Script {
             let time = life.time() + life.random.below(20_000);
             life.clock(time);
         }
-        if day >= 17 {
-            for asked in [1, 18, 19, 20, 21, 999] {
+        if day >= a - 3 {
+            for asked in [1, a - 2, a - 1, a, a + 1, u64::from(MOST_ASKED)] {
                 life.say(format!("read {asked}"));
             }
             life.say_all(&["check", "listing", "show"]);
-            life.say(format!("keep {}", day % 32));
+            life.say(format!("keep {}", day % KEPT_BLOCKS as u64));
         }
         let time = (first + day + 1) * SECONDS_PER_DAY + life.random.below(9_000);
         life.clock(time);
     }
-    for day in first + 20..first + 50 {
+    let days = 2 * a + 10;
+    for day in first + a..first + days {
         life.day(day);
     }
     let window = life.day_word(first);
-    life.say(format!("open {IDENTIFIER} {window} 50"));
-    for kept in (0..32).rev() {
+    life.say(format!("open {IDENTIFIER} {window} {days}"));
+    for kept in (0..KEPT_BLOCKS).rev() {
         life.say(format!("deliver {kept}"));
     }
-    for day in first..first + 50 {
+    for day in first..first + days {
         life.summary_and_missing(day);
     }
     for (class, days) in [
-        (Class::A, 19),
-        (Class::A, 20),
-        (Class::A, 21),
-        (Class::A, 25),
-        (Class::A, 61),
-        (Class::B, 99),
-        (Class::B, 101),
-        (Class::B, 230),
-        (Class::C, 260),
-        (Class::D, 449),
-        (Class::D, 460),
+        (Class::A, a - 1),
+        (Class::A, a),
+        (Class::A, a + 1),
+        (Class::A, a + 5),
+        (Class::A, 3 * a + 1),
+        (Class::B, b - 1),
+        (Class::B, b + 1),
+        (Class::B, 2 * b + 30),
+        (Class::C, c + 10),
+        (Class::D, d - 1),
+        (Class::D, d + 10),
     ] {
         for by_on in [false, true] {
             life.lived(class, 3);
@@ -258,13 +297,13 @@ pub fn rings(seed: u64) -> Script {
                 life.clock(time);
             }
             life.say("show");
-            for back in 0..(days + 4).min(25) {
+            for back in 0..(days + 4).min(a + 5) {
                 let day = life.today().saturating_sub(back);
                 life.day(day);
             }
             let oldest = life.today() + 1 - life.player.recorder.days;
             life.day(oldest);
-            life.say_all(&["read 999", "check", "listing", "read 20", "listing"]);
+            life.say_all(&[&format!("read {MOST_ASKED}"), "check", "listing", &format!("read {a}"), "listing"]);
         }
     }
     life.finish("boundary rings")
@@ -273,6 +312,8 @@ pub fn rings(seed: u64) -> Script {
 /// The calendar's first and last days, and jumps over the century.
 pub fn calendar_ends(seed: u64) -> Script {
     let mut life = Life::new(seed);
+    let (last, eve) = (write_date(LAST_DAY), write_date(LAST_DAY - 1));
+    let most = ledger::MOST_DAYS;
     for class in Class::ALL {
         for by_on in [false, true] {
             life.set_up(class, 10, 0, 70, 0);
@@ -285,57 +326,32 @@ pub fn calendar_ends(seed: u64) -> Script {
                 life.clock(LAST_TIME + 1);
                 life.clock(LAST_TIME);
             }
-            life.say_all(&[
-                "show",
-                "read 999",
-                "check",
-                "read 20",
-                "listing",
-                "day 991231",
-                "day 991230",
-                "day @36525",
-            ]);
-            life.say_all(&[
-                "count 50",
-                "reset",
-                "reverse",
-                "clock 991231 235959",
-                "off",
-                "on @3155760000",
-                "on @3155759999",
-                "show",
-            ]);
-            life.say_all(&["read 2", "check", "block", "day 991231"]);
+            life.say_all(&["show", &format!("read {MOST_ASKED}"), "check"]);
+            life.say_all(&[&format!("read {}", Class::A.days()), "listing"]);
+            life.say_all(&[&format!("day {last}"), &format!("day {eve}"), &format!("day @{}", calendar::DAYS)]);
+            life.say_all(&["count 50", "reset", "reverse"]);
+            life.say(format!("clock {last} {}", calendar::write_seconds(LAST_TIME)));
+            life.say("off");
+            life.say_all(&[&format!("on @{}", LAST_TIME + 1), &format!("on @{LAST_TIME}"), "show"]);
+            life.say_all(&["read 2", "check", "block", &format!("day {last}")]);
         }
     }
     for (class, start) in [
         (Class::A, LAST_TIME),
         (Class::D, LAST_TIME - 1),
-        (Class::B, LAST_TIME - 1_799),
+        (Class::B, LAST_TIME + 1 - SECONDS_PER_HALF_HOUR),
         (Class::A, LAST_TIME - SECONDS_PER_DAY),
     ] {
-        life.set_up(class, 1, start, 999_999_999, 4_294_967_295);
-        for time in [LAST_TIME - 1, LAST_TIME, LAST_TIME + 1, LAST_TIME, 999_999_999_999_999_999] {
+        life.set_up(class, LEAST_WEIGHT, start, TOTAL_MODULUS - 1, u32::MAX);
+        for time in [LAST_TIME - 1, LAST_TIME, LAST_TIME + 1, LAST_TIME, MOST_NUMBER] {
             life.clock(time);
             life.pulses(7);
             look(&mut life);
         }
-        life.say_all(&[
-            "keep 1",
-            "open ABCX24000017 991231 1",
-            "deliver 1",
-            "summary 991231",
-            "missing 991231",
-            "ledger",
-        ]);
-        life.say_all(&[
-            "open ABCX24000017 991230 2",
-            "deliver 1",
-            "summary 991230",
-            "summary 991231",
-            "missing 991231",
-            "ledger",
-        ]);
+        let (summary, missing) = (format!("summary {last}"), format!("missing {last}"));
+        life.say_all(&["keep 1", &format!("open {IDENTIFIER} {last} 1"), "deliver 1", &summary, &missing, "ledger"]);
+        life.say_all(&[&format!("open {IDENTIFIER} {eve} 2"), "deliver 1", &format!("summary {eve}")]);
+        life.say_all(&[&summary, &missing, "ledger"]);
     }
     // The first day: an early reading, an early ledger.
     life.say_all(&[
@@ -348,38 +364,26 @@ pub fn calendar_ends(seed: u64) -> Script {
         "listing",
         "keep 0",
     ]);
-    life.say_all(&[
-        "clock 000103 010000",
-        "read 999",
-        "check",
-        "listing",
-        "open ABCX24000017 000101 450",
-        "file",
-        "deliver 0",
-    ]);
-    life.say_all(&[
-        "summary 000101",
-        "summary 000102",
-        "summary 000103",
-        "missing 000103",
-        "missing 000104",
-        "summary @450",
-        "summary @449",
-    ]);
+    life.say_all(&["clock 000103 010000", &format!("read {MOST_ASKED}"), "check", "listing"]);
+    life.say_all(&[&format!("open {IDENTIFIER} 000101 {most}"), "file", "deliver 0"]);
+    life.say_all(&["summary 000101", "summary 000102", "summary 000103", "missing 000103", "missing 000104"]);
+    life.say_all(&[&format!("summary @{most}"), &format!("summary @{}", most - 1)]);
+    // The first day of the last window of the most days.
+    let latest = calendar::DAYS - most;
     for (day, days) in [
-        ("991231", 1),
-        ("991231", 2),
-        ("@36524", 1),
-        ("@36525", 1),
-        ("@36075", 450),
-        ("@36076", 450),
-        ("981008", 450),
-        ("000101", 450),
-        ("000101", 451),
-        ("000101", 0),
+        (last.clone(), 1),
+        (last.clone(), 2),
+        (format!("@{LAST_DAY}"), 1),
+        (format!("@{}", LAST_DAY + 1), 1),
+        (format!("@{latest}"), most),
+        (format!("@{}", latest + 1), most),
+        (write_date(latest), most),
+        (write_date(0), most),
+        (write_date(0), most + 1),
+        (write_date(0), 0),
     ] {
         life.say(format!("open {IDENTIFIER} {day} {days}"));
-        life.say_all(&["summary 991231", "missing 000101", "file"]);
+        life.say_all(&[&format!("summary {last}"), "missing 000101", "file"]);
     }
     life.finish("boundary calendar ends")
 }
@@ -387,20 +391,20 @@ pub fn calendar_ends(seed: u64) -> Script {
 /// Set-up and a read at the same second in each half-hour of a day.
 pub fn starts(seed: u64) -> Script {
     let mut life = Life::new(seed);
-    for half_hour in 0..48 {
-        for offset in [0, 1, 1_799] {
-            let day = life.random.below(36_000);
+    for half_hour in 0..HALF_HOURS as u64 {
+        for offset in [0, 1, SECONDS_PER_HALF_HOUR - 1] {
+            let day = life.random.below(LATEST_START);
             let time = day * SECONDS_PER_DAY + half_hour * SECONDS_PER_HALF_HOUR + offset;
-            let total = life.random.below(1_000_000_000);
+            let total = life.random.below(TOTAL_MODULUS);
             let class = *life.random.pick(&Class::ALL);
             life.set_up(class, 10, time, total, 9);
-            life.say_all(&["show", "read 1", "check", "listing", "fields", "write 331", "keep 0"]);
+            life.say_all(&["show", "read 1", "check", "listing", "fields", &write_into(bytes_for(1)), "keep 0"]);
             life.day(day);
             life.say_all(&["count 20", "access"]);
             life.clock(time + SECONDS_PER_HALF_HOUR);
             life.say_all(&["reverse", "read 1", "check", "listing"]);
             life.clock(time + 2 * SECONDS_PER_HALF_HOUR);
-            life.say_all(&["read 2", "listing", "fields", "write 550", "block"]);
+            life.say_all(&["read 2", "listing", "fields", &write_into(bytes_for(2)), "block"]);
             let word = life.day_word(day);
             life.say(format!("open {IDENTIFIER} {word} 1"));
             life.say_all(&["file", "deliver 0", "ledger"]);

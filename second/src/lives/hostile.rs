@@ -1,10 +1,19 @@
 //! Hostile lives: poked recorders and stores, lengths lent wrong, wrong power, bad
 //! times, rates and asks, outputs too short, the blank recorder.
 
-use super::{letter, plain_events, Life, Script, IDENTIFIER};
-use crate::block;
-use crate::calendar::{self, LAST_TIME, SECONDS_PER_DAY};
-use crate::recorder::{Class, StoreLength};
+use super::{letter, plain_events, Life, Script, IDENTIFIER, MOST_32_BITS};
+use crate::block::{
+    bytes_for, AT_TIME, DAY_BYTES, DEMAND_RESET, FLAGS, FRAME_BYTES, HEADER_BYTES, LENGTH_BYTES, MARKS_MODULUS,
+    METER_CHANGED, MOST_BYTES, POWER_LOST, RATES,
+};
+use crate::calendar::{self, DAYS, HALF_HOURS, LAST_TIME, SECONDS_PER_DAY};
+use crate::identifier;
+use crate::quantities::{
+    self, DEMAND_MODULUS, MOST_UNITS, READING_MODULUS, RESETS_MODULUS, TOTAL_MODULUS, VALUE_MODULUS,
+    WATT_HOURS_PER_UNIT,
+};
+use crate::recorder::{Class, StoreLength, FLAGS_WORD, LEAST_WEIGHT, MOST_ASKED, MOST_WEIGHT, WORDS_PER_DAY};
+use crate::script::{LONGEST_STORE, MOST_NUMBER};
 
 /// Every call of the recorder, each tried with its own plain values.
 fn every_call(life: &mut Life) {
@@ -12,7 +21,15 @@ fn every_call(life: &mut Life) {
     for event in plain_events(time, last) {
         life.say(event);
     }
-    life.say_all(&["read 1", "read 0", "rate 9", "rate 0", "read 1000", "read 1 0"]);
+    life.say_all(&["read 1", "read 0", &rate_too_many(), "rate 0", &asked_too_many(), "read 1 0"]);
+}
+
+fn rate_too_many() -> String {
+    format!("rate {}", RATES + 1)
+}
+
+fn asked_too_many() -> String {
+    format!("read {}", MOST_ASKED + 1)
 }
 
 /// Every set-up value in and out of range, with lengths lent right and wrong.
@@ -48,20 +65,15 @@ pub fn set_ups(seed: u64) -> Script {
         life.say(format!("open {identifier} 240229 2"));
         life.say_all(&["summary 240229", "ledger"]);
     }
+    let date_and_seconds = |time| calendar::write_date(calendar::day_of(time)) + " " + &calendar::write_seconds(time);
+    let times = [0, LAST_TIME, LAST_TIME + 1, MOST_32_BITS + 1, MOST_NUMBER].map(|time| format!("@{time}"));
+    let times: Vec<String> = times.into_iter().chain([LAST_TIME, 0].map(date_and_seconds)).collect();
     for class in ["a", "b", "c", "d", "e", "z", "A", "D"] {
-        for weight in [0, 1, 10, 100, 101, 4_294_967_295_u64] {
-            for time in [
-                "@0",
-                "@3155759999",
-                "@3155760000",
-                "@4294967296",
-                "@999999999999999999",
-                "991231 235959",
-                "000101 000000",
-            ] {
-                for total in [0, 999_999_999, 1_000_000_000, 4_294_967_295_u64] {
+        for weight in [LEAST_WEIGHT - 1, LEAST_WEIGHT, 10, MOST_WEIGHT, MOST_WEIGHT + 1, MOST_32_BITS] {
+            for time in &times {
+                for total in [0, TOTAL_MODULUS - 1, TOTAL_MODULUS, MOST_32_BITS] {
                     if life.random.once_in(3) {
-                        let counter = *life.random.pick(&[0, 4_294_967_295_u64, 4_294_967_296]);
+                        let counter = *life.random.pick(&[0, MOST_32_BITS, MOST_32_BITS + 1]);
                         life.say(format!("setup {IDENTIFIER} {class} {weight} {time} {total} {counter}"));
                         life.say_all(&["show", "off"]);
                     }
@@ -75,7 +87,7 @@ pub fn set_ups(seed: u64) -> Script {
             life.lend(lent);
             life.say(format!("setup {IDENTIFIER} {} 10 240229 110000 0 0", letter(class)));
             life.say_all(&["show", "count 0"]);
-            life.say(format!("setup {IDENTIFIER} {} 0 240229 110000 0 0", letter(class)));
+            life.say(format!("setup {IDENTIFIER} {} {} 240229 110000 0 0", letter(class), LEAST_WEIGHT - 1));
             life.say(format!("setup {IDENTIFIER} e 10 240229 110000 0 0"));
         }
         life.lend(right);
@@ -83,9 +95,9 @@ pub fn set_ups(seed: u64) -> Script {
         life.say_all(&["show", "day 240229", "lend", "count 4", "show"]);
         // A refused set-up leaves the store; an accepted one clears it.
         life.say("clock 240302 120000");
-        life.say(format!("setup {IDENTIFIER} {} 101 240229 110000 0 0", letter(class)));
+        life.say(format!("setup {IDENTIFIER} {} {} 240229 110000 0 0", letter(class), MOST_WEIGHT + 1));
         life.say("show");
-        life.say(format!("setup {IDENTIFIER} {} 100 240229 110000 0 0", letter(class)));
+        life.say(format!("setup {IDENTIFIER} {} {MOST_WEIGHT} 240229 110000 0 0", letter(class)));
         life.say_all(&["day 240229", "day 240301", "day 240302", "show"]);
     }
     life.finish("hostile set-ups")
@@ -99,16 +111,16 @@ fn wrong_lengths(right: StoreLength) -> Vec<StoreLength> {
             lengths.push(class.store_length());
         }
     }
-    for length in [right.values - 1, right.values + 1, right.values - 48, right.values + 48] {
+    for length in [right.values - 1, right.values + 1, right.values - HALF_HOURS, right.values + HALF_HOURS] {
         lengths.push(StoreLength { values: length, ..right });
     }
     for length in [right.starts - 1, right.starts + 1, 0] {
         lengths.push(StoreLength { starts: length, ..right });
     }
-    for length in [right.marks - 1, right.marks + 1, right.marks - 3] {
+    for length in [right.marks - 1, right.marks + 1, right.marks - WORDS_PER_DAY] {
         lengths.push(StoreLength { marks: length, ..right });
     }
-    let longest = Class::D.store_length();
+    let longest = LONGEST_STORE;
     lengths.retain(|l| l.values <= longest.values && l.starts <= longest.starts && l.marks <= longest.marks);
     lengths
 }
@@ -116,20 +128,23 @@ fn wrong_lengths(right: StoreLength) -> Vec<StoreLength> {
 /// Each field of the recorder poked to values in and out of range, then every call.
 pub fn pokes(seed: u64) -> Script {
     let mut life = Life::new(seed);
+    let [a, b, _, d] = Class::ALL.map(|class| class.days() as u64);
+    let (day, ring) = (SECONDS_PER_DAY, a * SECONDS_PER_DAY);
+    let (rates, demand) = (RATES as u64, DEMAND_MODULUS);
     let fields: [(&str, &[u64]); 15] = [
-        ("weight", &[0, 1, 100, 101, 4_294_967_295]),
-        ("time", &[0, 1, 86_399, 86_400, 1_728_000, LAST_TIME, LAST_TIME + 1, 4_294_967_296, 999_999_999_999_999_999]),
+        ("weight", &[LEAST_WEIGHT - 1, LEAST_WEIGHT, MOST_WEIGHT, MOST_WEIGHT + 1, MOST_32_BITS]),
+        ("time", &[0, 1, day - 1, day, ring, LAST_TIME, LAST_TIME + 1, MOST_32_BITS + 1, MOST_NUMBER]),
         ("power", &[0, 1]),
-        ("days", &[0, 1, 2, 3, 19, 20, 21, 100, 450, 451, 4_294_967_295]),
-        ("total", &[0, 9, 999_999_999, 1_000_000_000, 4_294_967_295]),
-        ("last", &[0, 4_294_967_295]),
-        ("rate", &[0, 1, 8, 9, 256, 4_294_967_295]),
-        ("current", &[0, 19_998, 999_999, 1_000_000, 4_294_967_295]),
-        ("previous", &[0, 999_999, 1_000_000, 4_294_967_295]),
-        ("summed", &[0, 999_999, 1_000_000, 4_294_967_295]),
-        ("reset", &[0, 1, 36_525, 36_526, 4_294_967_295]),
-        ("resets", &[0, 1, 99, 100, 4_294_967_295]),
-        ("base", &[0, 1, 99_999_999, 100_000_000, 4_294_967_295]),
+        ("days", &[0, 1, 2, 3, a - 1, a, a + 1, b, d, d + 1, MOST_32_BITS]),
+        ("total", &[0, WATT_HOURS_PER_UNIT - 1, TOTAL_MODULUS - 1, TOTAL_MODULUS, MOST_32_BITS]),
+        ("last", &[0, MOST_32_BITS]),
+        ("rate", &[0, 1, rates, rates + 1, 256, MOST_32_BITS]),
+        ("current", &[0, quantities::demand(MOST_UNITS), demand - 1, demand, MOST_32_BITS]),
+        ("previous", &[0, demand - 1, demand, MOST_32_BITS]),
+        ("summed", &[0, demand - 1, demand, MOST_32_BITS]),
+        ("reset", &[0, 1, DAYS, DAYS + 1, MOST_32_BITS]),
+        ("resets", &[0, 1, RESETS_MODULUS - 1, RESETS_MODULUS, MOST_32_BITS]),
+        ("base", &[0, 1, READING_MODULUS - 1, READING_MODULUS, MOST_32_BITS]),
         ("reverse", &[0, 1]),
         ("level2", &[0, 1]),
     ];
@@ -139,14 +154,14 @@ pub fn pokes(seed: u64) -> Script {
             poke_and_try(&mut life, &format!("poke {name} {value}"));
         }
     }
-    for rate in 1..=8 {
-        for value in [0, 999_999_999, 1_000_000_000, 4_294_967_295_u64] {
+    for rate in 1..=RATES {
+        for value in [0, TOTAL_MODULUS - 1, TOTAL_MODULUS, MOST_32_BITS] {
             life.lived(Class::A, 1);
             life.say(format!("rate {rate}"));
             poke_and_try(&mut life, &format!("poke register {rate} {value}"));
         }
     }
-    for at in 0..12 {
+    for at in 0..identifier::LENGTH {
         for byte in [b'A', b'Z', b'0', b'9', b'a', b'@', b'[', b'/', b':', b' ', 0, 255] {
             life.lived(Class::A, 0);
             life.say(format!("poke letter {at} {byte}"));
@@ -154,16 +169,18 @@ pub fn pokes(seed: u64) -> Script {
         }
     }
     // Two fields at once: a never reset date with a count, a base far from the reading.
-    for (reset, resets) in [(0, 1), (0, 0), (36_525, 0), (1, 99), (0, 99)] {
+    for (reset, resets) in [(0, 1), (0, 0), (DAYS, 0), (1, RESETS_MODULUS - 1), (0, RESETS_MODULUS - 1)] {
         life.lived(Class::A, 1);
         life.say(format!("poke reset {reset}"));
         poke_and_try(&mut life, &format!("poke resets {resets}"));
     }
-    for distance in [1, 5_000, 9_998, 9_999, 10_000, 10_001, 19_999, 50_000_000, 99_990_001, 99_999_999] {
+    let (value, reading) = (VALUE_MODULUS, READING_MODULUS);
+    let small = [1, value / 2, value - 2, value - 1, value, value + 1, 2 * value - 1];
+    for distance in small.into_iter().chain([reading / 2, reading - value + 1, reading - 1]) {
         life.lived(Class::A, 1);
-        let base = (life.player.recorder.total / 10 + 100_000_000 - distance) % 100_000_000;
+        let base = (quantities::reading(life.player.recorder.total) + reading - distance) % reading;
         life.say(format!("poke base {base}"));
-        for pulses in [0, 1, 9, 10, 4_294_967_295] {
+        for pulses in [0, 1, 9, 10, MOST_32_BITS] {
             life.pulses(pulses);
             life.say("show");
         }
@@ -173,7 +190,7 @@ pub fn pokes(seed: u64) -> Script {
     }
     // Each class poked over another's store, with lengths of either.
     for class in Class::ALL {
-        for poked in 0..=4 {
+        for poked in 0..=Class::ALL.len() {
             life.lived(class, 2);
             life.say(format!("poke class {poked}"));
             life.lend(class.store_length());
@@ -206,50 +223,45 @@ fn poke_and_try(life: &mut Life, poke: &str) {
     life.say_all(&["show", "reset", "meter 9", "access", "reverse", "rate 4", "show", "off", "off", "read 1"]);
     life.say(format!("on @{}", times[4] + 90_000));
     life.say_all(&["on @5", "show", "read 3", "listing"]);
-    let today = life.today().min(calendar::DAYS);
+    let today = life.today().min(DAYS);
     life.day(today);
 }
 
 /// Elements of the store poked, then read and lived on.
 pub fn stores(seed: u64) -> Script {
     let mut life = Life::new(seed);
+    let held = Class::A.days() as u64;
+    let last = HALF_HOURS as u64 - 1;
     for round in 0..160 {
         if round % 4 == 0 {
-            let days = life.random.between(1, 22);
+            let days = life.random.between(1, held + 2);
             life.lived(Class::A, days);
         }
         let back = life.random.below(life.player.recorder.days.min(4));
-        let room = Class::A.room(life.today() - back) as u64;
-        let half_hour = life.random.below(48);
+        let room = Class::A.room(life.today() - back);
+        let half_hour = life.random.below(last + 1);
         let ended = calendar::ended(life.time(), life.today()) as u64;
-        let half_hour = *life.random.pick(&[half_hour, ended.saturating_sub(1), ended.min(47), 47, 0]);
-        let value = *life.random.pick(&[0, 1, 5_000, 9_999, 10_000, 65_535]);
-        let start = *life.random.pick(&[0, 1, 99_999_999, 100_000_000, 4_294_967_295_u64]);
-        let word =
-            *life.random.pick(&[0_u64, 1, (1 << 47) - 1, 1 << 47, (1 << 48) - 1, 1 << 48, 999_999_999_999_999_999]);
-        let flags = *life.random.pick(&[
-            0_u64,
-            1,
-            0x10,
-            0x1f,
-            0x20,
-            0x40,
-            0x80,
-            0xe0,
-            0xff,
-            0x100,
-            0x1e0,
-            999_999_999_999_999_999,
-        ]);
+        let half_hour = *life.random.pick(&[half_hour, ended.saturating_sub(1), ended.min(last), last, 0]);
+        let value =
+            *life.random.pick(&[0, 1, VALUE_MODULUS / 2, VALUE_MODULUS - 1, VALUE_MODULUS, u64::from(u16::MAX)]);
+        let start = *life.random.pick(&[0, 1, READING_MODULUS - 1, READING_MODULUS, MOST_32_BITS]);
+        let first_mark = MARKS_MODULUS / 2;
+        let words = [0, 1, first_mark - 1, first_mark, MARKS_MODULUS - 1, MARKS_MODULUS, MOST_NUMBER];
+        let word = *life.random.pick(&words);
+        let low_bits = DEMAND_RESET - 1;
+        let right = [DEMAND_RESET, METER_CHANGED, POWER_LOST, FLAGS];
+        let past = [FLAGS | low_bits, 2 * POWER_LOST, FLAGS | 2 * POWER_LOST, MOST_NUMBER];
+        let flags: Vec<u64> = [0, 1, DEMAND_RESET / 2, low_bits].into_iter().chain(right).chain(past).collect();
+        let flags = *life.random.pick(&flags);
         let poke = match life.random.below(5) {
-            0 => format!("poke value {} {value}", 48 * room + half_hour),
+            0 => format!("poke value {} {value}", HALF_HOURS * room + half_hour as usize),
             1 => format!("poke start {room} {start}"),
-            2 => format!("poke mark {} {word}", 3 * room),
-            3 => format!("poke mark {} {word}", 3 * room + 1),
-            _ => format!("poke mark {} {flags}", 3 * room + 2),
+            2 => format!("poke mark {} {word}", WORDS_PER_DAY * room),
+            3 => format!("poke mark {} {word}", WORDS_PER_DAY * room + 1),
+            _ => format!("poke mark {} {flags}", WORDS_PER_DAY * room + FLAGS_WORD),
         };
         life.say(poke);
-        for asked in [0, 1, 2, 3, 4, 5, 20] {
+        for asked in [0, 1, 2, 3, 4, 5, held] {
             life.say(format!("read {asked}"));
         }
         life.say_all(&["check", "listing"]);
@@ -266,7 +278,7 @@ pub fn stores(seed: u64) -> Script {
             life.on(time);
         }
         life.day(day);
-        life.say_all(&["show", "read 20", "read 1", "listing"]);
+        life.say_all(&["show", &format!("read {held}"), "read 1", "listing"]);
     }
     life.finish("hostile stores")
 }
@@ -283,7 +295,7 @@ pub fn calls(seed: u64) -> Script {
             let today = life.today();
             life.day(today);
             // 5 stands behind 4, and 4 before all others.
-            life.say("poke rate 9");
+            life.say(format!("poke {}", rate_too_many()));
             every_call(&mut life);
             life.say("poke rate 1");
             life.say("poke class 0");
@@ -322,17 +334,8 @@ fn power(life: &mut Life) {
             life.say(event);
         }
     }
-    life.say_all(&[
-        "rate 9",
-        "rate 0",
-        "read 1000",
-        "read 1",
-        "read 0 0",
-        "clock @0",
-        "clock @999999999999999999",
-        "count 4000000000",
-        "show",
-    ]);
+    life.say_all(&[&rate_too_many(), "rate 0", &asked_too_many(), "read 1", "read 0 0", "clock @0"]);
+    life.say_all(&[&format!("clock @{MOST_NUMBER}"), "count 4000000000", "show"]);
     life.say(format!("on @{}", now - 1));
     life.say(format!("on @{}", LAST_TIME + 1));
     life.say("show");
@@ -347,15 +350,15 @@ fn times(life: &mut Life) {
     let times = [
         0,
         1,
-        now - 86_400,
+        now - SECONDS_PER_DAY,
         now - 1,
         LAST_TIME + 1,
         LAST_TIME + 2,
-        4_294_967_295,
-        4_294_967_296,
-        4_294_967_296 + now,
+        MOST_32_BITS,
+        MOST_32_BITS + 1,
+        MOST_32_BITS + 1 + now,
         1 << 40,
-        999_999_999_999_999_999,
+        MOST_NUMBER,
         now,
         now + 1,
     ];
@@ -370,7 +373,7 @@ fn times(life: &mut Life) {
         let now = life.time();
         life.say(format!("on @{now}"));
     }
-    for rate in [0, 1, 2, 3, 4, 5, 6, 7, 8, 9, 10, 255, 256, 257, 4_294_967_295_u64] {
+    for rate in (0..=RATES as u64 + 2).chain([255, 256, 257, MOST_32_BITS]) {
         life.say(format!("rate {rate}"));
         life.pulses(1);
         life.say("show");
@@ -379,34 +382,21 @@ fn times(life: &mut Life) {
 
 /// Reads with asks about the limits and outputs of every interesting length.
 fn outputs(life: &mut Life) {
-    for asked in [0, 1, 2, 3, 4, 20, 450, 998, 999, 1_000, 1_001, 65_536, 4_294_967_295_u64] {
+    let most = u64::from(MOST_ASKED);
+    let few = [0, 1, 2, 3, 4, Class::A.days() as u64, Class::D.days() as u64];
+    for asked in few.into_iter().chain(most - 1..=most + 2).chain([65_536, MOST_32_BITS]) {
         life.say(format!("read {asked}"));
         life.say("check");
     }
-    for asked in [0, 1, 2, 999, 1_000] {
-        let needed = block::bytes_for(life.player.recorder.days.min(asked) as usize);
-        let rooms = [
-            0,
-            1,
-            3,
-            4,
-            5,
-            17,
-            111,
-            112,
-            113,
-            330,
-            331,
-            332,
-            needed.saturating_sub(219),
-            needed - 2,
-            needed - 1,
-            needed,
-            needed + 1,
-            needed + 219,
-            98_661,
-            98_662,
-        ];
+    for asked in [0, 1, 2, most, most + 1] {
+        let needed = bytes_for(life.player.recorder.days.min(asked) as usize);
+        let rooms = [0, 1, LENGTH_BYTES - 1, LENGTH_BYTES, FRAME_BYTES, AT_TIME]
+            .into_iter()
+            .chain(HEADER_BYTES - 1..=HEADER_BYTES + 1)
+            .chain(bytes_for(1) - 1..=bytes_for(1) + 1)
+            .chain([needed.saturating_sub(DAY_BYTES)])
+            .chain(needed - 2..=needed + 1)
+            .chain([needed + DAY_BYTES, MOST_BYTES - 1, MOST_BYTES]);
         for room in rooms {
             life.say(format!("read {asked} {room}"));
         }
@@ -414,8 +404,9 @@ fn outputs(life: &mut Life) {
     }
     // The days to be sent are judged after 6 and before 7.
     let room = life.player.recorder.class.map_or(0, |class| class.room(life.today()));
-    life.say(format!("poke start {room} 100000000"));
-    life.say_all(&["read 1000", "read 1 0", "read 1", "read 0 111", "read 0", "read 1000 0"]);
+    life.say(format!("poke start {room} {READING_MODULUS}"));
+    life.say_all(&[&asked_too_many(), "read 1 0", "read 1", &format!("read 0 {}", HEADER_BYTES - 1), "read 0"]);
+    life.say(asked_too_many() + " 0");
     let now = life.time();
     life.clock(now + SECONDS_PER_DAY);
     life.say_all(&["read 1", "read 2", "read 1 5", "read 2 5", "listing"]);
@@ -429,13 +420,13 @@ fn random_call(life: &mut Life) {
         3 | 4 => format!("clock @{}", (now + life.random.below(9_000)).saturating_sub(life.random.below(4_000))),
         5 => format!("count {}", life.random.bits() as u32),
         6 => format!("count {}", life.player.recorder.last.wrapping_add(life.random.below(2_000) as u32)),
-        7 => format!("rate {}", life.random.below(11)),
+        7 => format!("rate {}", life.random.below(RATES as u64 + 3)),
         8 => "access".to_string(),
         9 => "reverse".to_string(),
         10 => "reset".to_string(),
         11 => format!("meter {}", life.random.bits() as u32),
         12 => format!("read {} {}", life.random.below(4), life.random.below(800)),
-        13 => format!("read {}", life.random.below(1_100)),
+        13 => format!("read {}", life.random.below(u64::from(MOST_ASKED) + 101)),
         14 => "listing".to_string(),
         _ => "show".to_string(),
     };

@@ -1,222 +1,261 @@
 //! Lines that can't be understood among lines that can, and scripts about the
 //! longest that is played.
 
-use super::{Life, Script};
-use crate::recorder::Class;
-use crate::script::MOST_SCRIPT_BYTES;
+use super::{Life, Script, IDENTIFIER, MOST_32_BITS};
+use crate::block::{self, DEMAND_RESET, HEADER_BYTES, MOST_BYTES, RATES, VERSION};
+use crate::calendar::{write_digits, HALF_HOURS};
+use crate::identifier;
+use crate::ledger;
+use crate::quantities::VALUE_MODULUS;
+use crate::recorder::{Class, StoreLength};
+use crate::script::{KEPT_BLOCKS, LONGEST_STORE, MOST_DIGITS, MOST_NUMBER, MOST_SCRIPT_BYTES};
 
-const WELL_FORMED: [&str; 50] = [
-    "setup ABCX24000017 a 10 240229 110000 0 0",
-    "setup ABCX24000017 b 10 @762000000 5 4294967295",
-    "count 5",
-    "clock 240229 120000",
-    "clock @762000000",
-    "off",
-    "on 240301 000000",
-    "on @999999999999999999",
-    "access",
-    "meter 4294967295",
-    "reset",
-    "rate 3",
-    "reverse",
-    "read 2",
-    "read 2 550",
-    "read 0 98662",
-    "day 240229",
-    "day @8825",
-    "show",
-    "block",
-    "hex 0000006C01",
-    "hex 00abCDef",
-    "byte 0 255",
-    "cut 112",
-    "cut 0",
-    "check",
-    "keep 0",
-    "keep 31",
-    "take 31",
-    "listing",
-    "fields",
-    "given time 999999999999999999",
-    "given kwh 5",
-    "given letter 11 65",
-    "given register 8 5",
-    "given start 449 5",
-    "given flags 0 32",
-    "given reversed 1 1",
-    "given level2 1 1",
-    "given value 449 47 9999",
-    "write 112",
-    "open ABCX24000017 240229 3",
-    "open ABCX24000017 @0 450",
-    "file",
-    "deliver 31",
-    "summary 240229",
-    "missing @8825",
-    "ledger",
-    "lend",
-    "lend 960 20 60",
-];
+/// Lines that are understood, many with a number at its limit.
+fn well_formed() -> Vec<String> {
+    let StoreLength { values, starts, marks } = Class::A.store_length();
+    let two_days = block::bytes_for(2);
+    let after_length = HEADER_BYTES - block::LENGTH_BYTES;
+    let (last_kept, last_letter) = (KEPT_BLOCKS - 1, identifier::LENGTH - 1);
+    let (last_day, last_half_hour) = (block::MOST_DAYS - 1, HALF_HOURS - 1);
+    let (most_value, longest_window) = (VALUE_MODULUS - 1, ledger::MOST_DAYS);
+    lines(format!(
+        "setup {IDENTIFIER} a 10 240229 110000 0 0\n\
+         setup {IDENTIFIER} b 10 @762000000 5 {MOST_32_BITS}\n\
+         count 5\n\
+         clock 240229 120000\n\
+         clock @762000000\n\
+         off\n\
+         on 240301 000000\n\
+         on @{MOST_NUMBER}\n\
+         access\n\
+         meter {MOST_32_BITS}\n\
+         reset\n\
+         rate 3\n\
+         reverse\n\
+         read 2\n\
+         read 2 {two_days}\n\
+         read 0 {MOST_BYTES}\n\
+         day 240229\n\
+         day @8825\n\
+         show\n\
+         block\n\
+         hex {after_length:08X}{VERSION:02X}\n\
+         hex 00abCDef\n\
+         byte 0 255\n\
+         cut {HEADER_BYTES}\n\
+         cut 0\n\
+         check\n\
+         keep 0\n\
+         keep {last_kept}\n\
+         take {last_kept}\n\
+         listing\n\
+         fields\n\
+         given time {MOST_NUMBER}\n\
+         given kwh 5\n\
+         given letter {last_letter} 65\n\
+         given register {RATES} 5\n\
+         given start {last_day} 5\n\
+         given flags 0 {DEMAND_RESET}\n\
+         given reversed 1 1\n\
+         given level2 1 1\n\
+         given value {last_day} {last_half_hour} {most_value}\n\
+         write {HEADER_BYTES}\n\
+         open {IDENTIFIER} 240229 3\n\
+         open {IDENTIFIER} @0 {longest_window}\n\
+         file\n\
+         deliver {last_kept}\n\
+         summary 240229\n\
+         missing @8825\n\
+         ledger\n\
+         lend\n\
+         lend {values} {starts} {marks}"
+    ))
+}
 
-const NOT_UNDERSTOOD: [&str; 86] = [
-    "count",
-    "count x",
-    "count -1",
-    "count +1",
-    "count 4294967296",
-    "count 1 2",
-    "count 1000000000000000000",
-    "count 0000000000000000001",
-    "count 1.0",
-    "count 0x1",
-    "Count 1",
-    "COUNT 1",
-    "counts 1",
-    "clock",
-    "clock 240229",
-    "clock 240230 000000",
-    "clock 230229 000000",
-    "clock 240229 240000",
-    "clock 240229 236000",
-    "clock 240229 235960",
-    "clock 2402290 00000",
-    "clock 240229 00000",
-    "clock @",
-    "clock @x",
-    "clock @-1",
-    "clock @1 000000",
-    "clock @1000000000000000000",
-    "clock 240229000000",
-    "clock @@1",
-    "off 1",
-    "off off",
-    "on",
-    "on 240229",
-    "access 1",
-    "meter",
-    "meter 4294967296",
-    "reset 0",
-    "rate",
-    "rate x",
-    "rate 4294967296",
-    "reverse 1",
-    "read",
-    "read x",
-    "read 4294967296",
-    "read 1 98663",
-    "read 1 2 3",
-    "read -1",
-    "day",
-    "day 230229",
-    "day 240229 000000",
-    "day @",
-    "show 1",
-    "block 1",
-    "hex",
-    "hex 0",
-    "hex 000",
-    "hex 0g",
-    "hex 00 00",
-    "byte 0",
-    "byte 98662 0",
-    "byte 0 256",
-    "byte x 0",
-    "cut",
-    "cut x",
-    "check 1",
-    "keep",
-    "keep 32",
-    "take 32",
-    "keep x",
-    "deliver 32",
-    "deliver",
-    "write",
-    "write 98663",
-    "open ABCX24000017 240229",
-    "open ABCX2400001 240229 1",
-    "open ABCX24000017 230229 1",
-    "given",
-    "given nothing 1",
-    "given value 0 1",
-    "given value 0 48 1",
-    "given register 0 5",
-    "given register 9 5",
-    "given letter 12 65",
-    "poke",
-    "poke nothing 1",
-    "poke class 5",
-];
+/// Lines that are not, many with a number past its limit.
+fn not_understood() -> Vec<String> {
+    let past_32_bits = MOST_32_BITS + 1;
+    let past_most = MOST_NUMBER + 1;
+    let padded_one = write_digits(1, MOST_DIGITS + 1);
+    let past_block = MOST_BYTES + 1;
+    let (past_rates, past_classes) = (RATES + 1, Class::ALL.len() + 1);
+    let letters = identifier::LENGTH;
+    lines(format!(
+        "count\n\
+         count x\n\
+         count -1\n\
+         count +1\n\
+         count {past_32_bits}\n\
+         count 1 2\n\
+         count {past_most}\n\
+         count {padded_one}\n\
+         count 1.0\n\
+         count 0x1\n\
+         Count 1\n\
+         COUNT 1\n\
+         counts 1\n\
+         clock\n\
+         clock 240229\n\
+         clock 240230 000000\n\
+         clock 230229 000000\n\
+         clock 240229 240000\n\
+         clock 240229 236000\n\
+         clock 240229 235960\n\
+         clock 2402290 00000\n\
+         clock 240229 00000\n\
+         clock @\n\
+         clock @x\n\
+         clock @-1\n\
+         clock @1 000000\n\
+         clock @{past_most}\n\
+         clock 240229000000\n\
+         clock @@1\n\
+         off 1\n\
+         off off\n\
+         on\n\
+         on 240229\n\
+         access 1\n\
+         meter\n\
+         meter {past_32_bits}\n\
+         reset 0\n\
+         rate\n\
+         rate x\n\
+         rate {past_32_bits}\n\
+         reverse 1\n\
+         read\n\
+         read x\n\
+         read {past_32_bits}\n\
+         read 1 {past_block}\n\
+         read 1 2 3\n\
+         read -1\n\
+         day\n\
+         day 230229\n\
+         day 240229 000000\n\
+         day @\n\
+         show 1\n\
+         block 1\n\
+         hex\n\
+         hex 0\n\
+         hex 000\n\
+         hex 0g\n\
+         hex 00 00\n\
+         byte 0\n\
+         byte {MOST_BYTES} 0\n\
+         byte 0 256\n\
+         byte x 0\n\
+         cut\n\
+         cut x\n\
+         check 1\n\
+         keep\n\
+         keep {KEPT_BLOCKS}\n\
+         take {KEPT_BLOCKS}\n\
+         keep x\n\
+         deliver {KEPT_BLOCKS}\n\
+         deliver\n\
+         write\n\
+         write {past_block}\n\
+         open {IDENTIFIER} 240229\n\
+         open ABCX2400001 240229 1\n\
+         open {IDENTIFIER} 230229 1\n\
+         given\n\
+         given nothing 1\n\
+         given value 0 1\n\
+         given value 0 {HALF_HOURS} 1\n\
+         given register 0 5\n\
+         given register {past_rates} 5\n\
+         given letter {letters} 65\n\
+         poke\n\
+         poke nothing 1\n\
+         poke class {past_classes}"
+    ))
+}
+
+/// More of them, about a recorder of class a and its store.
+fn not_understood_either() -> Vec<String> {
+    let StoreLength { values, starts, marks } = Class::A.store_length();
+    let (past_values, past_starts, past_marks) =
+        (LONGEST_STORE.values + 1, LONGEST_STORE.starts + 1, LONGEST_STORE.marks + 1);
+    let (longest_ledger, past_ledger) = (ledger::MOST_BYTES, ledger::MOST_BYTES + 1);
+    let past_32_bits = MOST_32_BITS + 1;
+    let past_most = MOST_NUMBER + 1;
+    let (letters, past_rates, given_days) = (identifier::LENGTH, RATES + 1, block::MOST_DAYS);
+    lines(format!(
+        "lend 1\n\
+         lend 1 2\n\
+         lend {past_values} 0 0\n\
+         lend 0 {past_starts} 0\n\
+         lend 0 0 {past_marks}\n\
+         lend x 0 0\n\
+         lend ledger\n\
+         lend ledger {past_ledger}\n\
+         lend ledger x\n\
+         lend ledger 1 2\n\
+         poke ledger {longest_ledger} 0\n\
+         poke letter {letters} 65\n\
+         poke register 0 1\n\
+         poke register {past_rates} 1\n\
+         poke value {values} 1\n\
+         poke value 0 65536\n\
+         poke start 0 {past_32_bits}\n\
+         poke start {starts} 1\n\
+         poke mark {marks} 1\n\
+         poke mark 0 {past_most}\n\
+         setup\n\
+         setup {IDENTIFIER}\n\
+         setup {IDENTIFIER} a 10 240229 110000 0\n\
+         setup {IDENTIFIER} a 10 240229 110000 0 0 0\n\
+         setup {IDENTIFIER} a 10 230229 110000 0 0\n\
+         setup {IDENTIFIER} a 10 240229 110000 0 {past_32_bits}\n\
+         setup ABCX2400001 a 10 @0 0 0\n\
+         setup {IDENTIFIER} a x @0 0 0\n\
+         setup {IDENTIFIER} a 10 @0 x 0\n\
+         ?\n\
+         ? 1\n\
+         help\n\
+         quit\n\
+         @\n\
+         0\n\
+         0 0\n\
+         summary\n\
+         summary 230229\n\
+         missing\n\
+         missing x\n\
+         ledger 1\n\
+         file 1\n\
+         listing 1\n\
+         fields 1\n\
+         \t\n\
+         show\t\n\
+         show\r\n\
+         \r\n\
+         -\n\
+         given time\n\
+         given time {past_most}\n\
+         given value 0 0 65536\n\
+         given start {given_days} 0\n\
+         given letter 0 256\n\
+         byte {past_32_bits} 0\n\
+         byte 18446744073709551616 0"
+    ))
+}
+
+fn lines(text: String) -> Vec<String> {
+    text.split('\n').map(str::to_string).collect()
+}
 
 /// Well-formed lines, lines that are none, and well-formed lines garbled.
 pub fn garbled(seed: u64) -> Script {
     let mut life = Life::new(seed);
+    let well_formed = well_formed();
     life.say("# a life of misprints");
     life.say("");
     life.lived(Class::A, 1);
     for _ in 0..3 {
-        for line in WELL_FORMED.iter().chain(&NOT_UNDERSTOOD) {
+        for line in well_formed.iter().chain(&not_understood()) {
             life.say(line);
         }
         life.say_all(&["lend", "show", "setup ABCX24000017 a 10 240229 110000 0 0", "read 1"]);
-        let others = [
-            "lend 1",
-            "lend 1 2",
-            "lend 21601 0 0",
-            "lend 0 451 0",
-            "lend 0 0 1351",
-            "lend x 0 0",
-            "lend ledger",
-            "lend ledger 51317",
-            "lend ledger x",
-            "lend ledger 1 2",
-            "poke ledger 51316 0",
-            "poke letter 12 65",
-            "poke register 0 1",
-            "poke register 9 1",
-            "poke value 960 1",
-            "poke value 0 65536",
-            "poke start 0 4294967296",
-            "poke start 20 1",
-            "poke mark 60 1",
-            "poke mark 0 1000000000000000000",
-            "setup",
-            "setup ABCX24000017",
-            "setup ABCX24000017 a 10 240229 110000 0",
-            "setup ABCX24000017 a 10 240229 110000 0 0 0",
-            "setup ABCX24000017 a 10 230229 110000 0 0",
-            "setup ABCX24000017 a 10 240229 110000 0 4294967296",
-            "setup ABCX2400001 a 10 @0 0 0",
-            "setup ABCX24000017 a x @0 0 0",
-            "setup ABCX24000017 a 10 @0 x 0",
-            "?",
-            "? 1",
-            "help",
-            "quit",
-            "@",
-            "0",
-            "0 0",
-            "summary",
-            "summary 230229",
-            "missing",
-            "missing x",
-            "ledger 1",
-            "file 1",
-            "listing 1",
-            "fields 1",
-            "\t",
-            "show\t",
-            "show\r",
-            "\r",
-            "-",
-            "given time",
-            "given time 1000000000000000000",
-            "given value 0 0 65536",
-            "given start 450 0",
-            "given letter 0 256",
-            "byte 4294967296 0",
-            "byte 18446744073709551616 0",
-        ];
-        for line in others {
+        for line in not_understood_either() {
             life.say(line);
         }
         life.say("show");
@@ -228,13 +267,13 @@ pub fn garbled(seed: u64) -> Script {
     life.say(b"show\x00");
     life.say_all(&[
         "setup ABCX24000017 a 10 240229 110000 0 0",
-        "count 000000000000000007",
-        "count 0000000000000000008",
-        "rate 000000000000000002",
+        &format!("count {}", write_digits(7, MOST_DIGITS)),
+        &format!("count {}", write_digits(8, MOST_DIGITS + 1)),
+        &format!("rate {}", write_digits(2, MOST_DIGITS)),
         "show",
     ]);
     for _ in 0..1_500 {
-        let line = life.random.pick(&WELL_FORMED).as_bytes().to_vec();
+        let line = life.random.pick(&well_formed).as_bytes().to_vec();
         let line = garble(&mut life, line);
         life.say(line);
         if life.random.once_in(20) {

@@ -1,15 +1,20 @@
 //! Ordinary lives: weeks of counts, clocks, outages, accesses, resets and reads, and
 //! the ledgers that take their blocks lost, repeated and shuffled.
 
-use super::{Life, Script, IDENTIFIER};
+use super::{write_into, Life, Script, IDENTIFIER};
+use crate::block::{self, RATES};
 use crate::calendar::{self, SECONDS_PER_DAY, SECONDS_PER_HALF_HOUR};
-use crate::recorder::Class;
+use crate::ledger;
+use crate::listing;
+use crate::quantities::{TOTAL_MODULUS, WATT_HOURS_PER_KWH};
+use crate::recorder::{Class, LEAST_WEIGHT, MOST_ASKED, MOST_WEIGHT};
+use crate::script::KEPT_BLOCKS;
 
 /// Some weeks of one outstation, read out and delivered to ledgers.
 pub fn weeks(seed: u64) -> Script {
     let mut life = Life::new(seed);
     let class = *life.random.pick(&[Class::A, Class::A, Class::B, Class::C, Class::D]);
-    let days = life.random.between(3, 32);
+    let days = life.random.between(3, Class::A.days() as u64 + 12);
     let first = begin(&mut life, class, days);
     let end = (first + days) * SECONDS_PER_DAY;
     let mut reads = 0;
@@ -29,9 +34,12 @@ pub fn weeks(seed: u64) -> Script {
 /// More than a year of a class d outstation: reads of hundreds of days and a full ledger.
 pub fn year(seed: u64) -> Script {
     let mut life = Life::new(seed);
-    let first = begin(&mut life, Class::D, 470);
+    let held = Class::D.days() as u64;
+    let listed = listing::MOST_DAYS as u64;
+    let asked_most = u64::from(MOST_ASKED);
+    let first = begin(&mut life, Class::D, held + 20);
     let mut kept = 0;
-    for day in 0..=460 {
+    for day in 0..=held + 10 {
         for _ in 0..life.random.between(1, 4) {
             let pulses = life.random.below(life.pulses_left() + 1);
             life.pulses(pulses);
@@ -40,32 +48,33 @@ pub fn year(seed: u64) -> Script {
             let time = life.time() + life.random.below(20_000);
             life.clock(time);
         }
-        if day % 97 == 0 || [99, 100, 101, 449, 450, 451].contains(&day) {
-            let asked = *life.random.pick(&[450, 449, 999, 100, 101]);
+        if day % 97 == 0 || day.abs_diff(listed) <= 1 || day.abs_diff(held) <= 1 {
+            let asked = *life.random.pick(&[held, held - 1, asked_most, listed, listed + 1]);
             life.say(format!("read {asked}"));
-            life.say_all(&["check", "listing", "fields", "write 98662", "check"]);
+            life.say_all(&["check", "listing", "fields", &write_into(block::MOST_BYTES), "check"]);
             life.say(format!("keep {kept}"));
             kept += 1;
         }
         let next = (first + day + 1) * SECONDS_PER_DAY + life.random.below(30_000);
         life.clock(next);
     }
-    for asked in [99, 100, 101, 449, 450, 451, 999] {
+    for asked in [listed - 1, listed, listed + 1, held - 1, held, held + 1, asked_most] {
         life.say(format!("read {asked}"));
         life.say_all(&["check", "listing"]);
     }
     life.say("block");
-    life.say("keep 31");
-    let mut order: Vec<u64> = (0..kept).chain([31]).collect();
+    let last_kept = KEPT_BLOCKS - 1;
+    life.say(format!("keep {last_kept}"));
+    let mut order: Vec<usize> = (0..kept).chain([last_kept]).collect();
     life.random.shuffle(&mut order);
-    for days in [450, 449] {
+    for days in [ledger::MOST_DAYS, ledger::MOST_DAYS - 1] {
         let day = life.day_word(first + 5);
         life.say(format!("open {IDENTIFIER} {day} {days}"));
         for kept in &order {
             life.say(format!("deliver {kept}"));
         }
     }
-    for day in first + 3..first + 458 {
+    for day in first + 3..first + ledger::MOST_DAYS + 8 {
         life.summary_and_missing(day);
     }
     life.say("ledger");
@@ -92,11 +101,11 @@ pub fn ledgers(seed: u64) -> Script {
 fn begin(life: &mut Life, class: Class, days: u64) -> u64 {
     let first = life.random.below(calendar::DAYS - days - 5);
     let time = first * SECONDS_PER_DAY + life.random.below(SECONDS_PER_DAY);
-    let weight = *life.random.pick(&[1, 2, 5, 10, 10, 33, 100]);
+    let weight = *life.random.pick(&[LEAST_WEIGHT, 2, 5, 10, 10, 33, MOST_WEIGHT]);
     let total = match life.random.below(3) {
         0 => 0,
-        1 => 1_000_000_000 - life.random.between(1, 3_000_000),
-        _ => life.random.below(1_000_000_000),
+        1 => TOTAL_MODULUS - life.random.between(1, 3_000 * WATT_HOURS_PER_KWH),
+        _ => life.random.below(TOTAL_MODULUS),
     };
     let counter = match life.random.below(2) {
         0 => u32::MAX - life.random.below(1_000_000) as u32,
@@ -107,7 +116,7 @@ fn begin(life: &mut Life, class: Class, days: u64) -> u64 {
 }
 
 /// One thing that happens, a read about once in `reading` other things.
-fn step(life: &mut Life, reads: &mut u64, reading: u64) {
+fn step(life: &mut Life, reads: &mut usize, reading: u64) {
     if life.random.once_in(reading) {
         return read(life, reads);
     }
@@ -142,11 +151,11 @@ fn step(life: &mut Life, reads: &mut u64, reading: u64) {
             life.say("reset");
         }
         93..=96 => {
-            let rate = life.random.between(1, 8);
+            let rate = life.random.between(1, RATES as u64);
             life.say(format!("rate {rate}"));
         }
         97 => {
-            let day = life.today().saturating_sub(life.random.below(25));
+            let day = life.today().saturating_sub(life.random.below(Class::A.days() as u64 + 5));
             life.day(day);
         }
         _ => {
@@ -191,10 +200,10 @@ fn outage(life: &mut Life) {
 }
 
 /// A read, looked at in some way and kept.
-fn read(life: &mut Life, reads: &mut u64) {
+fn read(life: &mut Life, reads: &mut usize) {
     let asked = match life.random.below(6) {
         0 => 0,
-        1 => 999,
+        1 => u64::from(MOST_ASKED),
         2 => life.player.recorder.days,
         _ => life.random.between(1, 5),
     };
@@ -207,10 +216,10 @@ fn read(life: &mut Life, reads: &mut u64) {
         1 => {
             life.say("listing");
         }
-        2 => life.say_all(&["fields", "write 98662", "check", "listing"]),
+        2 => life.say_all(&["fields", &write_into(block::MOST_BYTES), "check", "listing"]),
         _ => {}
     }
-    life.say(format!("keep {}", *reads % 32));
+    life.say(format!("keep {}", *reads % KEPT_BLOCKS));
     *reads += 1;
 }
 
@@ -221,7 +230,7 @@ fn deliveries(life: &mut Life, first: u64, days: u64) {
     let number = life.random.between(1, days + 4).min(calendar::DAYS - from);
     let from_word = life.day_word(from);
     life.say(format!("open {IDENTIFIER} {from_word} {number}"));
-    let mut order: Vec<u64> = (0..32).chain(0..32).filter(|_| life.random.below(3) > 0).collect();
+    let mut order: Vec<usize> = (0..KEPT_BLOCKS).chain(0..KEPT_BLOCKS).filter(|_| life.random.below(3) > 0).collect();
     life.random.shuffle(&mut order);
     for kept in order {
         life.say(format!("deliver {kept}"));

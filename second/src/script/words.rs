@@ -5,13 +5,16 @@ use crate::answer::Answer;
 use crate::block::RATES;
 use crate::calendar::{self, SECONDS_PER_DAY};
 use crate::identifier::Identifier;
+use crate::quantities;
 use crate::recorder::Class;
 
-const MOST_DIGITS: usize = 18;
+/// A number has at most so many digits.
+pub const MOST_DIGITS: usize = 18;
+pub const MOST_NUMBER: u64 = quantities::modulus(MOST_DIGITS) - 1;
 
 pub type Word<'a> = &'a [u8];
 
-/// A whole number of at most 18 digits.
+/// A whole number.
 pub fn number(word: Word) -> Option<u64> {
     if word.is_empty() || word.len() > MOST_DIGITS {
         return None;

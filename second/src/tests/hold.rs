@@ -1,6 +1,12 @@
 //! What must hold of any block, any refusal and any number.
 
 use super::*;
+use crate::answer::{DONE, NOT_A_BLOCK, NOT_CONSISTENT, OUTPUT_SHORT};
+use crate::block::{DAY_BYTES, DAY_REVERSE, DAY_VALUES, HEADER_BYTES, LENGTH_BYTES, POWER_LOST, RATES};
+use crate::calendar::{HALF_HOURS, LAST_TIME};
+use crate::quantities::{DEMAND_MODULUS, KWH_MODULUS, TOTAL_MODULUS, VALUE_DIGITS};
+use crate::recorder::{MOST_ASKED, WORDS_PER_DAY};
+use crate::script::{KEPT_BLOCKS, MOST_SCRIPT_BYTES};
 
 #[test]
 fn a_filled_half_hour_is_unmarked_and_repeats() {
@@ -8,19 +14,21 @@ fn a_filled_half_hour_is_unmarked_and_repeats() {
     outstation.event(Event::Access);
     let block = outstation.read(1);
     assert_eq!(block::check(&block), Answer::done(1));
-    for (at, byte) in [(112 + 15 + 8, b'1'), (112 + 207, 0x20), (112 + 218, 1)] {
+    let third_value = HEADER_BYTES + DAY_VALUES + 2 * VALUE_DIGITS;
+    let reverse_marks = HEADER_BYTES + DAY_REVERSE;
+    for (at, byte) in [(third_value, b'1'), (reverse_marks, 0x20), (block.len() - 1, 1)] {
         let mut damaged = block.clone();
         damaged[at] = byte;
-        assert_eq!(block::check(&damaged), Answer::refused(10));
+        assert_eq!(block::check(&damaged), Answer::refused(NOT_CONSISTENT));
     }
     let mut marked = block;
-    marked[112 + 207] = 0xc0;
+    marked[reverse_marks] = 0xc0;
     assert_eq!(block::check(&marked), Answer::done(1));
 }
 
 /// A few days with marks in every day, read at several times.
 fn lived() -> Outstation {
-    let mut outstation = Outstation::new(Class::A, 10, "240227231500", 999_950_000, 0);
+    let mut outstation = Outstation::new(Class::A, 10, "240227231500", TOTAL_MODULUS - 50_000, 0);
     for step in 0..120_u64 {
         let counter = outstation.recorder.last.wrapping_add((step * 37 % 900) as u32);
         outstation.event(Event::Count(counter));
@@ -46,7 +54,10 @@ fn a_written_block_reads_back() {
         assert_eq!(block::write(&fields.header, &fields.days, &mut rewritten), Answer::done(block.len()));
         assert_eq!(rewritten, block);
         let mut short = vec![5; block.len() - 1];
-        assert_eq!(block::write(&fields.header, &fields.days, &mut short), Answer::refused_with(7, block.len()));
+        assert_eq!(
+            block::write(&fields.header, &fields.days, &mut short),
+            Answer::refused_with(OUTPUT_SHORT, block.len())
+        );
         assert!(short.iter().all(|&byte| byte == 5));
     }
 }
@@ -60,7 +71,7 @@ fn an_accepted_damaged_block_is_rewritten_the_same() {
             damaged[at] = byte;
             if let Ok(fields) = block::read(&damaged) {
                 let mut rewritten = vec![0; damaged.len()];
-                assert_eq!(block::write(&fields.header, &fields.days, &mut rewritten).number, 0);
+                assert_eq!(block::write(&fields.header, &fields.days, &mut rewritten).number, DONE);
                 assert_eq!(rewritten, damaged);
             }
         }
@@ -70,20 +81,35 @@ fn an_accepted_damaged_block_is_rewritten_the_same() {
 #[test]
 fn the_writer_refuses_what_the_reader_would() {
     let header = Header { identifier: IDENTIFIER, ..Header::default() };
-    let mut output = [0; 400];
-    assert_eq!(block::write(&header, &[], &mut output), Answer::done(112));
+    let mut output = [0; block::bytes_for(1)];
+    assert_eq!(block::write(&header, &[], &mut output), Answer::done(HEADER_BYTES));
     assert_eq!(block::write(&header, &[Day::ZERO], &mut output), Answer::refused(DAMAGED));
     for spoiled in [
-        Header { time: calendar::LAST_TIME + 1, ..header.clone() },
-        Header { kwh: 1_000_000, ..header.clone() },
-        Header { cumulative: 1_000_000, ..header.clone() },
-        Header { reset: 36_526, ..header.clone() },
+        Header { time: LAST_TIME + 1, ..header.clone() },
+        Header { kwh: KWH_MODULUS, ..header.clone() },
+        Header { cumulative: DEMAND_MODULUS, ..header.clone() },
+        Header { reset: calendar::DAYS + 1, ..header.clone() },
         Header { resets: 1, ..header.clone() },
         Header { days: 1, ..header.clone() },
         Header { identifier: *b"abcx24000017", ..header.clone() },
     ] {
         assert_eq!(block::write(&spoiled, &[], &mut output), Answer::refused(DAMAGED));
     }
+}
+
+#[test]
+fn a_block_of_the_most_days_and_one_more() {
+    let header = Header { identifier: IDENTIFIER, time: LAST_TIME, days: block::MOST_DAYS as u64, ..Header::default() };
+    let days = vec![Day::ZERO; block::MOST_DAYS + 1];
+    let mut block = vec![0; block::MOST_BYTES];
+    assert_eq!(block::write(&header, &days[1..], &mut block), Answer::done(block::MOST_BYTES));
+    assert_eq!(block::check(&block), Answer::done(block::MOST_DAYS));
+    let longer = Header { days: header.days + 1, ..header };
+    assert_eq!(block::write(&longer, &days, &mut block), Answer::refused(DAMAGED));
+    block.extend_from_within(block.len() - DAY_BYTES..);
+    let length = (block.len() - LENGTH_BYTES) as u32;
+    block[..LENGTH_BYTES].copy_from_slice(&length.to_be_bytes());
+    assert_eq!(block::check(&block), Answer::refused(NOT_A_BLOCK));
 }
 
 #[test]
@@ -97,20 +123,21 @@ fn refusals_change_nothing() {
         "open ABCX24000017 240229 2",
         "file",
     ];
+    let one_day = block::bytes_for(1);
     let refused = [
         "count 4000000000",
         "clock 240229 105959",
         "on 240229 110000",
-        "rate 9",
-        "read 1000",
-        "read 1 330",
+        &format!("rate {}", RATES + 1),
+        &format!("read {}", MOST_ASKED + 1),
+        &format!("read 1 {}", one_day - 1),
         "summary 240302",
-        "byte 331 0",
+        &format!("byte {one_day} 0"),
         "off off",
-        "keep 32",
+        &format!("keep {KEPT_BLOCKS}"),
         "given nothing 1",
-        "poke class 5",
-        "clock @3155760000",
+        &format!("poke class {}", Class::ALL.len() + 1),
+        &format!("clock @{}", LAST_TIME + 1),
         "rate 0",
     ];
     let look = ["show", "block", "ledger", "day 240229"];
@@ -131,10 +158,10 @@ fn refusals_change_nothing() {
 fn outages_longer_than_the_ring_flag_every_stored_day() {
     let mut outstation = Outstation::new(Class::A, 10, "240229110000", 0, 0);
     outstation.event(Event::Off);
-    assert_eq!(outstation.event(Event::On(calendar::LAST_TIME)), 0);
-    assert_eq!(outstation.recorder.days, 20);
-    assert!(outstation.marks.chunks(3).all(|words| words == [0, 0, 0x80]));
-    assert_eq!(block::check(&outstation.read(999)), Answer::done(20));
+    assert_eq!(outstation.event(Event::On(LAST_TIME)), DONE);
+    assert_eq!(outstation.recorder.days, Class::A.days() as u64);
+    assert!(outstation.marks.chunks(WORDS_PER_DAY).all(|words| words == [0, 0, POWER_LOST]));
+    assert_eq!(block::check(&outstation.read(MOST_ASKED)), Answer::done(Class::A.days()));
 }
 
 #[test]
@@ -143,8 +170,8 @@ fn scripts_as_the_page_says() {
         answers(&["", "# a comment", "show 1", "", "check", "block", "listing", "ledger", "day 000101"]),
         ["? 3", "8 0", "", "REFUSED 8", "", "? 9"]
     );
-    assert_eq!(script::play(&vec![b'#'; 2_000_001])[0].answer, "? 0");
-    assert!(script::play(&vec![b'#'; 2_000_000]).is_empty());
+    assert_eq!(script::play(&vec![b'#'; MOST_SCRIPT_BYTES + 1])[0].answer, "? 0");
+    assert!(script::play(&vec![b'#'; MOST_SCRIPT_BYTES]).is_empty());
     assert_eq!(
         answers(&["hex 00aBCd", "block", "byte 2 1", "byte 3 1", "cut 5", "block", "keep 3", "take 4", "take 3"]),
         ["0 3", "00abcd", "0 0", "? 4", "0 5", "00ab010000", "0 5", "0 0", "0 5"]
@@ -155,7 +182,7 @@ fn scripts_as_the_page_says() {
 fn hostile_numbers_never_panic() {
     let hostile = u64::MAX;
     let header = Header {
-        identifier: [255; 12],
+        identifier: [255; IDENTIFIER.len()],
         time: hostile,
         kwh: hostile,
         current: hostile,
@@ -163,17 +190,22 @@ fn hostile_numbers_never_panic() {
         cumulative: hostile,
         reset: hostile,
         resets: hostile,
-        registers: [hostile; 8],
+        registers: [hostile; RATES],
         days: hostile,
     };
-    let day = Day { start: u32::MAX, flags: hostile, reverse: hostile, level2: hostile, values: [u16::MAX; 48] };
+    let day =
+        Day { start: u32::MAX, flags: hostile, reverse: hostile, level2: hostile, values: [u16::MAX; HALF_HOURS] };
     assert_eq!(block::write(&header, &[day], &mut []), Answer::refused(DAMAGED));
     let recorder =
         Recorder { class: Some(Class::D), time: hostile, days: hostile, total: hostile, base: hostile, ..BLANK };
     let mut store = Store { values: &mut [], starts: &mut [], marks: &mut [] };
     assert_eq!(recorder.step(Event::On(hostile), &mut store).1, Answer::refused(WRONG_LENGTH));
-    let mut store =
-        Store { values: &mut [u16::MAX; 21_600], starts: &mut [u32::MAX; 450], marks: &mut [u64::MAX; 1_350] };
+    let length = Class::D.store_length();
+    let mut store = Store {
+        values: &mut vec![u16::MAX; length.values],
+        starts: &mut vec![u32::MAX; length.starts],
+        marks: &mut vec![u64::MAX; length.marks],
+    };
     assert_eq!(recorder.step(Event::Count(0), &mut store).1, Answer::refused(DAMAGED));
     assert_eq!(ledger::open(&IDENTIFIER, hostile, hostile, &mut []), Answer::refused(OUT_OF_RANGE));
     assert_eq!(ledger::summary(&[255; 200], hostile).answer, DAMAGED);

@@ -1,6 +1,7 @@
 //! The order of the answers: which refusal comes where several are due.
 
 use super::*;
+use crate::quantities;
 
 #[test]
 fn the_order_of_the_recorder_s_answers() {
@@ -9,39 +10,41 @@ fn the_order_of_the_recorder_s_answers() {
     outstation.recorder.weight = 0;
     outstation.recorder.power = false;
     outstation.values.push(0);
-    assert_eq!(outstation.event(Event::Rate(9)), WRONG_LENGTH);
+    let rate_too_many = Event::Rate(block::RATES as u32 + 1);
+    assert_eq!(outstation.event(rate_too_many), WRONG_LENGTH);
     outstation.recorder.class = None;
-    assert_eq!(outstation.event(Event::Rate(9)), DAMAGED);
+    assert_eq!(outstation.event(rate_too_many), DAMAGED);
     outstation.recorder.class = right.class;
     outstation.values.pop();
-    assert_eq!(outstation.event(Event::Rate(9)), DAMAGED);
+    assert_eq!(outstation.event(rate_too_many), DAMAGED);
     outstation.recorder.weight = 10;
-    assert_eq!(outstation.event(Event::Rate(9)), WRONG_POWER);
+    assert_eq!(outstation.event(rate_too_many), WRONG_POWER);
     assert_eq!(outstation.event(Event::Clock(0)), WRONG_POWER);
     assert_eq!(outstation.event(Event::Count(u32::MAX)), WRONG_POWER);
     assert_eq!(outstation.event(Event::On(0)), WRONG_TIME);
     assert_eq!(outstation.event(Event::On(right.time)), 0);
     assert_eq!(outstation.event(Event::On(0)), WRONG_POWER);
-    assert_eq!(outstation.event(Event::Rate(9)), OUT_OF_RANGE);
+    assert_eq!(outstation.event(rate_too_many), OUT_OF_RANGE);
     assert_eq!(outstation.event(Event::Count(u32::MAX)), TOO_MANY_UNITS);
 }
 
 #[test]
 fn the_order_of_a_read_s_answers() {
-    let set_up = "setup ABCX24000017 a 10 240229 110000 0 0";
+    let room = Class::A.room(calendar::read_date(b"240229").unwrap());
+    let asked_too_many = &format!("read {}", recorder::MOST_ASKED + 1);
     let lines = [
-        set_up,
-        "poke start 5 100000000",
-        "read 1000",
+        "setup ABCX24000017 a 10 240229 110000 0 0",
+        &format!("poke start {room} {}", quantities::READING_MODULUS),
+        asked_too_many,
         "read 1 0",
         "read 0 0",
         "read 0 112",
         "off",
-        "read 1000",
+        asked_too_many,
         "poke rate 0",
-        "read 1000",
+        asked_too_many,
         "lend 0 0 0",
-        "read 1000",
+        asked_too_many,
     ];
     assert_eq!(answers(&lines)[2..], ["6 0", "5 0", "7 112", "0 112", "0 0", "1 0", "0 0", "5 0", "0 0", "4 0"]);
 }
@@ -55,25 +58,25 @@ fn set_up_and_opening_check_6_before_4() {
         "show",
         "off",
         "setup ABCX24000017 e 1 @0 0 0",
-        "setup ABCX24000017 a 1 @3155760000 0 0",
+        &format!("setup ABCX24000017 a 1 @{} 0 0", calendar::LAST_TIME + 1),
     ];
     let blank = ["0"; 24].join(" ");
     assert_eq!(answers(&lines), ["0 0", "6 0", "4 0", &blank, "5 0", "6 0", "6 0"]);
-    let mut short = [1; 15];
-    assert_eq!(ledger::open(&IDENTIFIER, 36_525, 1, &mut short), Answer::refused(OUT_OF_RANGE));
-    assert_eq!(ledger::open(&IDENTIFIER, 36_524, 1, &mut short), Answer::refused(WRONG_LENGTH));
-    assert_eq!(short, [1; 15]);
+    let mut short = [1; ledger::HEADER_BYTES - 1];
+    let last = calendar::LAST_DAY;
+    assert_eq!(ledger::open(&IDENTIFIER, last + 1, 1, &mut short), Answer::refused(OUT_OF_RANGE));
+    assert_eq!(ledger::open(&IDENTIFIER, last, 1, &mut short), Answer::refused(WRONG_LENGTH));
+    assert_eq!(short, [1; ledger::HEADER_BYTES - 1]);
 }
 
 #[test]
 fn the_order_of_the_ledger_s_answers() {
-    let day = 8_825;
     let mut outstation = Outstation::new(Class::A, 10, "240229110000", 0, 0);
-    assert_eq!(outstation.recorder.time / 86_400, day);
+    let day = calendar::day_of(outstation.recorder.time);
     let block = outstation.read(1);
     let mut bytes = vec![0; ledger::bytes_for(1)];
     assert_eq!(ledger::file(&mut bytes, &[]), Answer::refused(DAMAGED));
-    assert_eq!(ledger::file(&mut bytes[..15], &[]), Answer::refused(WRONG_LENGTH));
+    assert_eq!(ledger::file(&mut bytes[..ledger::HEADER_BYTES - 1], &[]), Answer::refused(WRONG_LENGTH));
     assert_eq!(ledger::open(&IDENTIFIER, day, 1, &mut bytes), Answer::done(0));
     let mut longer = bytes.clone();
     longer.push(0);
@@ -85,20 +88,20 @@ fn the_order_of_the_ledger_s_answers() {
     assert_eq!(ledger::missing(&bytes, day + 1).answer, OUT_OF_RANGE);
     assert_eq!(ledger::file(&mut longer, &[]), Answer::refused(DAMAGED));
     let mut damaged = block.clone();
-    damaged[109] = b'9';
-    damaged[5] = b'B';
+    damaged[block::AT_NUMBER] = b'9';
+    damaged[block::AT_IDENTIFIER] = b'B';
     assert_eq!(ledger::file(&mut bytes, &damaged), Answer::refused(10));
-    damaged[17] = b'x';
+    damaged[block::AT_TIME] = b'x';
     assert_eq!(ledger::file(&mut bytes, &damaged), Answer::refused_with(9, 17));
     damaged.push(0);
     assert_eq!(ledger::file(&mut bytes, &damaged), Answer::refused(8));
     assert_eq!(ledger::file(&mut bytes, &block), Answer::done(22));
     let held = bytes.clone();
     let mut other = block.clone();
-    other[112 + 207] = 0x80;
-    other[5] = b'B';
+    other[block::HEADER_BYTES + block::DAY_REVERSE] = 0x80;
+    other[block::AT_IDENTIFIER] = b'B';
     assert_eq!(ledger::file(&mut bytes, &other), Answer::refused(11));
-    other[5] = b'A';
+    other[block::AT_IDENTIFIER] = b'A';
     assert_eq!(ledger::file(&mut bytes, &other), Answer::refused(12));
     assert_eq!(bytes, held);
 }
