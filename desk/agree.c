@@ -1,14 +1,15 @@
 /* Holds the library against the plain C of the same calls, on blocks and ledgers that are right, nearly right and damaged: the same answers, the same
  * memory. Prints how often each answer of each call was given. Exit status 0 where the two never differ and every answer that a call can give was seen. */
 #include "cop6.h"
+#include "layout.h"
 #include "plain.h"
 #include "sample.h"
 
 #include <stdio.h>
 #include <string.h>
 
-enum { ROUNDS = 20000, MOST = 8, LEDGER = 16 + 114 * MOST, BLOCK = 112 + 219 * MOST, FILINGS = 4, LAST_DAY = 36524, CLEAR = 0xee };
-enum { RUNS_ROUND = 10416 }; /* the day in which the readings of a sample's life pass 99,999,999 */
+enum { ROUNDS = 20000, MOST = 8, LEDGER = COP6_LEDGER_BYTES(MOST), BLOCK = COP6_BLOCK_BYTES(MOST), FILINGS = 4, CLEAR = 0xee };
+enum { RUNS_ROUND = COP6_READING_ROUND / (COP6_HALVES * SAMPLE_ADVANCE) }; /* the day in which a sample's readings do so */
 
 /* ---- what was seen */
 
@@ -23,18 +24,18 @@ static const struct {
     [DAY] = {"day", {0, 1}, 2},
     [DATE] = {"date", {0, 1}, 2},
     [LEDGER_LENGTH] = {"ledger_length", {1}, 1},
-    [READ] = {"read", {0, 8, 9, 10}, 4},
+    [READ] = {"read", {COP6_DONE, COP6_NO_BLOCK, COP6_FIELD, COP6_INCONSISTENT}, 4},
     [LISTING] = {"listing", {0, 1}, 2},
-    [HEADER] = {"header", {0, 7, 8, 9, 10}, 5},
-    [OPEN] = {"open", {0, 4, 6}, 3},
-    [FILE_BLOCK] = {"file", {0, 4, 5, 8, 9, 10, 11, 12}, 8},
-    [DIFFERS] = {"differs", {0, 4, 5, 7, 8, 9, 10, 11}, 8},
-    [IDENTIFIER] = {"identifier", {0, 4, 5, 7}, 4},
-    [WINDOW] = {"window", {0, 4, 5}, 3},
-    [MISSING] = {"missing", {0, 4, 5, 6}, 4},
-    [SUMMARY] = {"summary", {0, 4, 5, 6, 7}, 5},
-    [FLAGS] = {"flags", {0, 4, 5, 6}, 4},
-    [HALVES] = {"halves", {0, 4, 5, 6, 7}, 5},
+    [HEADER] = {"header", {COP6_DONE, COP6_SHORT, COP6_NO_BLOCK, COP6_FIELD, COP6_INCONSISTENT}, 5},
+    [OPEN] = {"open", {COP6_DONE, COP6_LENGTH, COP6_RANGE}, 3},
+    [FILE_BLOCK] = {"file", {COP6_DONE, COP6_LENGTH, COP6_DAMAGED, COP6_NO_BLOCK, COP6_FIELD, COP6_INCONSISTENT, COP6_OTHER_METER, COP6_DIFFERS}, 8},
+    [DIFFERS] = {"differs", {COP6_DONE, COP6_LENGTH, COP6_DAMAGED, COP6_SHORT, COP6_NO_BLOCK, COP6_FIELD, COP6_INCONSISTENT, COP6_OTHER_METER}, 8},
+    [IDENTIFIER] = {"identifier", {COP6_DONE, COP6_LENGTH, COP6_DAMAGED, COP6_SHORT}, 4},
+    [WINDOW] = {"window", {COP6_DONE, COP6_LENGTH, COP6_DAMAGED}, 3},
+    [MISSING] = {"missing", {COP6_DONE, COP6_LENGTH, COP6_DAMAGED, COP6_RANGE}, 4},
+    [SUMMARY] = {"summary", {COP6_DONE, COP6_LENGTH, COP6_DAMAGED, COP6_RANGE, COP6_SHORT}, 5},
+    [FLAGS] = {"flags", {COP6_DONE, COP6_LENGTH, COP6_DAMAGED, COP6_RANGE}, 4},
+    [HALVES] = {"halves", {COP6_DONE, COP6_LENGTH, COP6_DAMAGED, COP6_RANGE, COP6_SHORT}, 5},
 };
 static unsigned long given[CALLS][16];
 
@@ -124,11 +125,11 @@ static void alter(uint8_t *block, uint32_t sent, uint32_t k, uint64_t *seed) {
     uint32_t j = sample_next(seed) % COP6_HALVES;
     uint8_t *record = block + COP6_BLOCK_BYTES(i);
     switch (what) {
-    case 0: record[14] ^= (uint8_t)(0x20u << sample_next(seed) % 3); break;
-    case 1: record[207 + j / 8] ^= (uint8_t)(j < ended ? 0x80u >> j % 8 : 0); break;
-    case 2: record[213 + j / 8] ^= (uint8_t)(j < ended ? 0x80u >> j % 8 : 0); break;
-    case 3: memcpy(record + 15 + 4 * j, record + 15 + 4 * (j + 1 < ended ? j + 1 : j), 4); break;
-    default: record[13] ^= 1; break;
+    case 0: record[RECORD_FLAGS] ^= (uint8_t)(COP6_FLAG_RESET << sample_next(seed) % 3); break;
+    case 1: record[RECORD_REVERSE + j / 8] ^= (uint8_t)(j < ended ? 0x80u >> j % 8 : 0); break;
+    case 2: record[RECORD_LEVEL2 + j / 8] ^= (uint8_t)(j < ended ? 0x80u >> j % 8 : 0); break;
+    case 3: memcpy(record + RECORD_VALUE(j), record + RECORD_VALUE(j + 1 < ended ? j + 1 : j), VALUE_DIGITS); break;
+    default: record[RECORD_FLAGS - 1] ^= 1; break;
     }
 }
 
@@ -140,11 +141,11 @@ static void make_block(struct lent *l, uint32_t life, uint64_t *seed) {
     if (sent > 0 && sample_next(seed) % 4 == 0)
         alter(l->block, sent, k, seed);
     if (sample_next(seed) % 8 == 0)
-        memcpy(l->block + 53, sample_next(seed) % 2 ? "24022907" : "00000001", 8);
-    for (size_t at = 29; at < 109; at += at == 47 ? 14 : 6)
-        l->block[at + l->days % 6] = (uint8_t)('0' + sample_next(seed) % 10);
+        memcpy(l->block + HEAD_RESET, sample_next(seed) % 2 ? "24022907" : "00000001", HEAD_RATES - HEAD_RESET);
+    for (size_t at = HEAD_KWH; at < HEAD_DAYS; at = at == HEAD_CUMULATIVE ? HEAD_RATES : at + REGISTER_DIGITS)
+        l->block[at + l->days % REGISTER_DIGITS] = (uint8_t)('0' + sample_next(seed) % 10);
     for (uint32_t i = sample_next(seed) % 3; i > 0; i--) {
-        size_t within = sample_next(seed) % 2 ? l->block_length : 112;
+        size_t within = sample_next(seed) % 2 ? l->block_length : COP6_BLOCK_BYTES(0);
         damage(l->block + sample_next(seed) % within, seed);
     }
     if (sample_next(seed) % 16 == 0)
@@ -162,18 +163,23 @@ static void damage_ledger(struct lent *l, uint64_t *seed) {
     static const struct {
         size_t at, length;
         uint32_t number;
-    } edges[] = {{0, 1, 49}, {0, 1, 50}, {2, 4, 99999999}, {2, 4, 100000000}, {6, 2, 9999}, {6, 2, 10000}};
-    static const uint32_t days[] = {0, 450, 451, 65535};
+    } edges[] = {{ROOM_STATE, 1, COP6_HALVES + 1},
+                 {ROOM_STATE, 1, COP6_HALVES + 2},
+                 {ROOM_START, START_BYTES, COP6_READING_ROUND - 1},
+                 {ROOM_START, START_BYTES, COP6_READING_ROUND},
+                 {ROOM_VALUES, VALUE_BYTES, COP6_VALUE_ROUND - 1},
+                 {ROOM_VALUES, VALUE_BYTES, COP6_VALUE_ROUND}};
+    static const uint32_t days[] = {0, COP6_MOST_DAYS, COP6_MOST_DAYS + 1, UINT16_MAX};
     size_t at = sample_next(seed) % l->length, chance = sample_next(seed) % 64;
     l->lent = sample_next(seed) % 32 == 0 ? sample_next(seed) % (l->length + 1) : l->length;
     if (chance < 4) {
         damage(l->ledger + at, seed);
         l->other[at] = l->ledger[at];
     } else if (chance < 10) {
-        put_in_ledger(l, 16 + 114 * (at % l->days) + edges[chance - 4].at, edges[chance - 4].length, edges[chance - 4].number);
+        put_in_ledger(l, COP6_LEDGER_BYTES(at % l->days) + edges[chance - 4].at, edges[chance - 4].length, edges[chance - 4].number);
     } else if (chance < 14) {
-        put_in_ledger(l, 14, 2, days[chance - 10]);
-        l->lent = chance == 10 ? 16 : l->length;
+        put_in_ledger(l, LEDGER_DAYS, DAY_BYTES, days[chance - 10]);
+        l->lent = chance == 10 ? COP6_LEDGER_BYTES(0) : l->length;
     }
 }
 
@@ -190,16 +196,16 @@ static void compare_days(uint64_t *seed) {
 static void compare_open(struct lent *l, uint64_t *seed) {
     uint8_t name[COP6_IDENTIFIER];
     uint32_t chance = sample_next(seed) % 8, first = l->first, days = l->days;
-    size_t twelve = chance == 0 ? sample_next(seed) % 12 : COP6_IDENTIFIER;
+    size_t twelve = chance == 0 ? sample_next(seed) % COP6_IDENTIFIER : COP6_IDENTIFIER;
     memcpy(name, SAMPLE_METER, sizeof name);
     if (chance == 1)
-        damage(name + sample_next(seed) % 12, seed);
+        damage(name + sample_next(seed) % COP6_IDENTIFIER, seed);
     if (chance == 2)
         first = LAST_DAY - days + sample_next(seed) % 4;
     if (chance == 3)
         first = UINT32_MAX - sample_next(seed) % 8;
     if (chance == 4)
-        days = sample_next(seed) % 2 ? 0 : 451 + sample_next(seed) % 2;
+        days = sample_next(seed) % 2 ? 0 : COP6_MOST_DAYS + 1 + sample_next(seed) % 2;
     size_t length = chance == 5 ? sample_next(seed) % (l->length + 1) : l->length;
     memset(l->ledger, CLEAR, sizeof l->ledger);
     memset(l->other, CLEAR, sizeof l->other);
@@ -218,7 +224,7 @@ static void compare_block(const struct lent *l, uint64_t *seed) {
     same_answer(READ, read, plain_read(b, n));
 
     clear_output();
-    size_t room = some_room(COP6_ANSWER(read) != COP6_DONE ? 11 : COP6_LISTING_BYTES(COP6_CARRIED(read)), seed);
+    size_t room = some_room(COP6_ANSWER(read) != COP6_DONE ? strlen("REFUSED 10\n") : COP6_LISTING_BYTES(COP6_CARRIED(read)), seed);
     uint64_t text = cop6_listing(b, n, bytes[0], room);
     same(LISTING, text != 0, text, plain_listing(b, n, bytes[1], room));
     same_memory(LISTING, bytes[0], bytes[1], sizeof bytes[0]);

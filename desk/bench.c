@@ -13,19 +13,21 @@
 #include <string.h>
 #include <time.h>
 
-enum { DAYS = COP6_MOST_DAYS, LEDGER = 16 + 114 * DAYS, BLOCK = 112 + 219 * DAYS, DAY = 8825 };
+enum { DAYS = COP6_MOST_DAYS, LEDGER = COP6_LEDGER_BYTES(DAYS), BLOCK = COP6_BLOCK_BYTES(DAYS), DAY = 8825, ENDED = 30, READ = COP6_BLOCK_BYTES(TIMED_DAYS) };
 enum { COUNTS = 20000, CLOCKS = 20000, YEARS = 99, READS = 20, HALF_HOUR = 1800, YEAR = 31557600 };
 #define CENTURY UINT32_C(3155759999)
+#define FIGURES(number) FIGURES_OF(number)
+#define FIGURES_OF(number) #number
 
 static uint8_t block[BLOCK], fresh[LEDGER];
 static size_t block_length;
 
 /* What the calls may change: the library's, and the plain C's. */
 struct memory {
-    uint8_t ledger[LEDGER], read[BLOCK];
-    uint64_t summary[COP6_SUMMARY], marks[3 * DAYS];
-    uint32_t starts[DAYS];
-    uint16_t values[COP6_HALVES * DAYS];
+    uint8_t ledger[LEDGER], read[READ];
+    uint64_t summary[COP6_SUMMARY], marks[TIMED_WORDS * TIMED_DAYS];
+    uint32_t starts[TIMED_DAYS];
+    uint16_t values[COP6_HALVES * TIMED_DAYS];
 };
 static struct memory ours, theirs;
 
@@ -40,7 +42,7 @@ static uint64_t nanoseconds(void) {
 static void nothing(struct memory *m) { (void)m; }
 static void empty_ledger(struct memory *m) { memcpy(m->ledger, fresh, LEDGER); }
 
-#define STORE(m) (m)->values, COP6_HALVES *DAYS, (m)->starts, DAYS, (m)->marks, 3 * DAYS
+#define STORE(m) (m)->values, COP6_HALVES *TIMED_DAYS, (m)->starts, TIMED_DAYS, (m)->marks, TIMED_WORDS *TIMED_DAYS
 
 static uint64_t library_read(struct memory *m) { return (void)m, cop6_read(block, block_length); }
 static uint64_t c_read(struct memory *m) { return (void)m, plain_read(block, block_length); }
@@ -57,25 +59,25 @@ static uint64_t library_years(struct memory *m) { return timed_clocks(STORE(m), 
 static uint64_t c_years(struct memory *m) { return plain_clocks(STORE(m), YEARS, YEAR); }
 static uint64_t library_century(struct memory *m) { return timed_clocks(STORE(m), 1, CENTURY); }
 static uint64_t c_century(struct memory *m) { return plain_clocks(STORE(m), 1, CENTURY); }
-static uint64_t library_reads(struct memory *m) { return timed_reads(STORE(m), m->read, BLOCK, READS); }
-static uint64_t c_reads(struct memory *m) { return plain_reads(STORE(m), m->read, BLOCK, READS); }
+static uint64_t library_reads(struct memory *m) { return timed_reads(STORE(m), m->read, READ, READS); }
+static uint64_t c_reads(struct memory *m) { return plain_reads(STORE(m), m->read, READ, READS); }
 
-/* A job, how often it does what it is named for, how many rounds of it there are, and what it must answer, in which the answer number 0 is. */
+/* A job, how often it does what it is named for, how many rounds of it there are, and what it must answer, in which the answer number COP6_DONE is. */
 static const struct {
     const char *name;
     void (*before)(struct memory *);
     uint64_t (*library)(struct memory *), (*c)(struct memory *);
     uint64_t times, rounds, answer;
 } jobs[] = {
-    {"read a block of 450 days", nothing, library_read, c_read, 1, 400, DAYS},
-    {"file it in an empty ledger", empty_ledger, library_file, c_file, 1, 400, 48 * (DAYS - 1) + 30},
+    {"read a block of " FIGURES(COP6_MOST_DAYS) " days", nothing, library_read, c_read, 1, 400, DAYS},
+    {"file it in an empty ledger", empty_ledger, library_file, c_file, 1, 400, COP6_HALVES * (DAYS - 1) + ENDED},
     {"file it again", nothing, library_file, c_file, 1, 400, 0},
     {"summary of a day", nothing, library_summary, c_summary, 1, 400, 0},
     {"a Count", nothing, library_counts, c_counts, COUNTS, 100, COUNTS},
     {"a Clock over one boundary", nothing, library_clocks, c_clocks, CLOCKS, 100, (uint64_t)CLOCKS * HALF_HOUR},
     {"a Clock over a year", nothing, library_years, c_years, YEARS, 20, (uint64_t)YEARS * YEAR},
     {"a Clock over a century", nothing, library_century, c_century, 1, 20, CENTURY},
-    {"a read of 450 days", nothing, library_reads, c_reads, READS, 50, (uint64_t)READS * BLOCK},
+    {"a read of " FIGURES(TIMED_DAYS) " days", nothing, library_reads, c_reads, READS, 50, (uint64_t)READS * READ},
 };
 
 static uint64_t once(void (*before)(struct memory *), uint64_t (*job)(struct memory *), struct memory *m, uint64_t *answer) {
@@ -86,8 +88,8 @@ static uint64_t once(void (*before)(struct memory *), uint64_t (*job)(struct mem
 }
 
 int main(void) {
-    block_length = sample_block(block, DAYS, DAY, 30, 1);
-    if (COP6_ANSWER(cop6_open(fresh, LEDGER, (const uint8_t *)SAMPLE_METER, 12, DAY - DAYS + 1, DAYS)) != COP6_DONE)
+    block_length = sample_block(block, DAYS, DAY, ENDED, 1);
+    if (COP6_ANSWER(cop6_open(fresh, LEDGER, (const uint8_t *)SAMPLE_METER, COP6_IDENTIFIER, DAY - DAYS + 1, DAYS)) != COP6_DONE)
         return 1;
     printf("| Job | Library, ns | Plain C, ns | Ratio |\n|---|---|---|---|\n");
     for (size_t i = 0; i < sizeof jobs / sizeof *jobs; i++) {

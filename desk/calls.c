@@ -6,7 +6,7 @@
 #include <stdio.h>
 #include <string.h>
 
-uint8_t ledger[LEDGER], ledger_before[LEDGER], block[MOST_BLOCK];
+uint8_t ledger[LEDGER], ledger_before[LEDGER], block[COP6_BLOCK_BYTES(2)];
 uint64_t numbers[NUMBERS];
 size_t block_length;
 static int wrong;
@@ -24,35 +24,34 @@ int clear(const void *memory, size_t length) {
 }
 
 size_t header_of(int count, const char *time) {
-    int behind = 108 + 219 * count;
-    memset(block, '0', 112);
-    memcpy(block, "\0\0\0\0\1", 5);
-    block[2] = (uint8_t)(behind / 256);
-    block[3] = (uint8_t)(behind % 256);
-    memcpy(block + 5, METER, COP6_IDENTIFIER);
-    memcpy(block + 17, time, 12);
-    block[111] = (uint8_t)('0' + count);
-    return COP6_BLOCK_BYTES(count);
+    size_t length = COP6_BLOCK_BYTES(count);
+    memset(block, '0', COP6_BLOCK_BYTES(0));
+    sample_bytes(block, LENGTH_BYTES, length - LENGTH_BYTES);
+    block[HEAD_VERSION] = VERSION;
+    memcpy(block + HEAD_IDENTIFIER, METER, COP6_IDENTIFIER);
+    memcpy(block + HEAD_TIME, time, TIME_DIGITS);
+    sample_digits(block + HEAD_DAYS, DAYS_DIGITS, (uint64_t)count);
+    return length;
 }
 
-void record_of(size_t at, const char *date_and_start, const char *value, const char *others) {
-    memcpy(block + at, date_and_start, 14);
-    block[at + 14] = 0;
+void record_of(size_t i, const char *date_and_start, const char *value, const char *others) {
+    memcpy(RECORD(i), date_and_start, DATE_DIGITS + START_DIGITS);
+    RECORD(i)[RECORD_FLAGS] = 0;
     for (size_t j = 0; j < COP6_HALVES; j++)
-        memcpy(block + at + 15 + 4 * j, j == 0 ? value : others, 4);
-    memset(block + at + 207, 0, 12);
+        memcpy(RECORD(i) + RECORD_VALUE(j), j == 0 ? value : others, VALUE_DIGITS);
+    memset(RECORD(i) + RECORD_REVERSE, 0, 2 * MARK_BYTES);
 }
 
 void one_day(const char *time) {
     block_length = header_of(1, time);
-    record_of(112, "24022900471100", "1150", "1230");
+    record_of(0, "24022900471100", "1150", "1230");
 }
 
 void two_days(void) {
     block_length = header_of(2, "240301001000");
-    record_of(112, "24030100471230", "1230", "1230");
-    record_of(331, "24022900471100", "1150", "1230");
-    block[331 + 14] = COP6_FLAG_POWER | COP6_FLAG_RESET;
+    record_of(0, "24030100471230", "1230", "1230");
+    record_of(1, "24022900471100", "1150", "1230");
+    RECORD(1)[RECORD_FLAGS] = COP6_FLAG_POWER | COP6_FLAG_RESET;
 }
 
 void open_ledger(void) { IS(cop6_open(ledger, sizeof ledger, METER, COP6_IDENTIFIER, DAY - 1, DAYS), ANSWER(COP6_DONE, 0)); }
@@ -64,6 +63,28 @@ void file_one_day(void) {
     memcpy(ledger_before, ledger, sizeof ledger);
 }
 
+/* ---- the numbers of the rules */
+
+/* Each by its figure; everywhere else they go by their names. */
+static void figures(void) {
+    IS(COP6_IDENTIFIER, 12);
+    IS(COP6_HALVES, 48);
+    IS(COP6_RATES, 8);
+    IS(COP6_HEADER, 28);
+    IS(COP6_SUMMARY, 6);
+    IS(COP6_DIFFERENCE, 4);
+    IS(COP6_VALUE_ROUND, 10000);
+    IS(COP6_READING_ROUND, 100000000);
+    IS(COP6_MOST_DAYS, 450);
+    IS(COP6_LISTING_BYTES(1), 62);
+    IS(COP6_BLOCK_BYTES(0), 112);
+    IS(COP6_BLOCK_BYTES(1), 331);
+    IS(COP6_BLOCK_BYTES(COP6_MOST_DAYS), 98662);
+    IS(COP6_LEDGER_BYTES(0), 16);
+    IS(COP6_LEDGER_BYTES(1), 130);
+    IS(COP6_LEDGER_BYTES(COP6_MOST_DAYS), 51316);
+}
+
 /* ---- days and blocks */
 
 static void days(void) {
@@ -73,7 +94,7 @@ static void days(void) {
     IS(cop6_day(101), 0);
     IS(cop6_date(0), 101);
     IS(cop6_day(991231), 36524);
-    IS(cop6_date(36525), 0);
+    IS(cop6_date(LAST_DAY + 1), 0);
     IS(cop6_day(1240229), COP6_NO_DAY);
 }
 
@@ -82,11 +103,11 @@ static void reading(void) {
     IS(cop6_read(block, block_length), ANSWER(COP6_DONE, 1));
     IS(cop6_read(NULL, 0), ANSWER(COP6_NO_BLOCK, 0));
     IS(cop6_read(block, block_length - 1), ANSWER(COP6_NO_BLOCK, 0));
-    block[130] = ' ';
+    RECORD(0)[RECORD_VALUE(1) - 1] = ' ';
     IS(cop6_read(block, block_length), ANSWER(COP6_FIELD, 127));
-    block[130] = '0';
+    RECORD(0)[RECORD_VALUE(1) - 1] = '0';
     IS(cop6_read(block, block_length), ANSWER(COP6_DONE, 1));
-    block[135] = '9';
+    RECORD(0)[RECORD_VALUE(2)] = '9';
     IS(cop6_read(block, block_length), ANSWER(COP6_INCONSISTENT, 0));
     two_days();
     IS(cop6_read(block, block_length), ANSWER(COP6_DONE, 2));
@@ -94,15 +115,14 @@ static void reading(void) {
 
 /* The listing: whole, or nothing of it. */
 static void listing(void) {
-    uint8_t out[64];
+    uint8_t out[COP6_LISTING_BYTES(1) + 2];
     one_day("240229011000");
     memset(out, CLEAR, sizeof out);
-    IS(cop6_listing(block, block_length, out, 61), 0);
+    IS(cop6_listing(block, block_length, out, COP6_LISTING_BYTES(1) - 1), 0);
     IS(clear(out, sizeof out), 1);
     IS(cop6_listing(block, block_length, NULL, 0), 0);
-    IS(cop6_listing(block, block_length, out, sizeof out), 62);
-    IS(COP6_LISTING_BYTES(1), 62);
-    IS(memcmp(out, "ABCX24000017 240229011000 001\n240229 02 00471100 000130 00 00\n\xee\xee", 64), 0);
+    IS(cop6_listing(block, block_length, out, sizeof out), COP6_LISTING_BYTES(1));
+    IS(memcmp(out, "ABCX24000017 240229011000 001\n240229 02 00471100 000130 00 00\n\xee\xee", sizeof out), 0);
     IS(cop6_listing(NULL, 0, out, sizeof out), 10);
     IS(memcmp(out, "REFUSED 8\n", 10), 0);
 }
@@ -112,23 +132,23 @@ static void header_refused(void) {
     one_day("240229011000");
     IS(cop6_header(NULL, 0, numbers, 0), ANSWER(COP6_NO_BLOCK, 0));
     IS(cop6_header(block, block_length - 1, numbers, NUMBERS), ANSWER(COP6_NO_BLOCK, 0));
-    block[34] = 'x';
+    block[HEAD_CURRENT - 1] = 'x';
     IS(cop6_header(block, block_length, numbers, NUMBERS), ANSWER(COP6_FIELD, 29));
-    IS(cop6_header(block, block_length, numbers, 27), ANSWER(COP6_FIELD, 29));
+    IS(cop6_header(block, block_length, numbers, COP6_HEADER - 1), ANSWER(COP6_FIELD, 29));
     one_day("240229011000");
-    block[60] = '1';
+    block[HEAD_RATES - 1] = '1';
     IS(cop6_header(block, block_length, numbers, NUMBERS), ANSWER(COP6_INCONSISTENT, 0));
     one_day("240229011000");
-    IS(cop6_header(block, block_length, numbers, 27), ANSWER(COP6_SHORT, 28));
-    IS(cop6_header(block, block_length, NULL, 0), ANSWER(COP6_SHORT, 28));
+    IS(cop6_header(block, block_length, numbers, COP6_HEADER - 1), ANSWER(COP6_SHORT, COP6_HEADER));
+    IS(cop6_header(block, block_length, NULL, 0), ANSWER(COP6_SHORT, COP6_HEADER));
     IS(clear(numbers, sizeof numbers), 1);
 }
 
 static void header(void) {
     memset(numbers, CLEAR, sizeof numbers);
     one_day("240229011000");
-    memcpy(block + 29, "004711" "000160" "999999" "000300" "240201" "07", 32);
-    memcpy(block + 61, "000001" "000020" "000300" "004000" "050000" "600000" "000000" "000008", 48);
+    memcpy(block + HEAD_KWH, "004711" "000160" "999999" "000300" "240201" "07", HEAD_RATES - HEAD_KWH);
+    memcpy(block + HEAD_RATES, "000001" "000020" "000300" "004000" "050000" "600000" "000000" "000008", HEAD_DAYS - HEAD_RATES);
     IS(cop6_header(block, block_length, numbers, NUMBERS), ANSWER(COP6_DONE, 1));
     for (int i = 0; i < COP6_IDENTIFIER; i++)
         IS(numbers[COP6_HEAD_IDENTIFIER + i], METER[i]);
@@ -142,15 +162,14 @@ static void header(void) {
     static const uint64_t rates[COP6_RATES] = {1, 20, 300, 4000, 50000, 600000, 0, 8};
     IS(memcmp(numbers + COP6_HEAD_RATES, rates, sizeof rates), 0);
     IS(numbers[COP6_HEAD_DAYS], 1);
-    IS(COP6_HEADER, 28);
     IS(clear(numbers + COP6_HEADER, sizeof numbers - COP6_HEADER * sizeof *numbers), 1);
     block_length = header_of(0, "000101000000");
-    memcpy(block + 53, "000101", 6);
-    IS(cop6_header(block, block_length, numbers, 28), ANSWER(COP6_DONE, 0));
+    memcpy(block + HEAD_RESET, "000101", DATE_DIGITS);
+    IS(cop6_header(block, block_length, numbers, COP6_HEADER), ANSWER(COP6_DONE, 0));
     IS(numbers[COP6_HEAD_TIME], 0);
     IS(numbers[COP6_HEAD_RESET], 1);
-    memcpy(block + 53, "000000", 6);
-    IS(cop6_header(block, block_length, numbers, 28), ANSWER(COP6_DONE, 0));
+    memcpy(block + HEAD_RESET, "000000", DATE_DIGITS);
+    IS(cop6_header(block, block_length, numbers, COP6_HEADER), ANSWER(COP6_DONE, 0));
     IS(numbers[COP6_HEAD_RESET], 0);
     IS(numbers[COP6_HEAD_DAYS], 0);
 }
@@ -158,12 +177,12 @@ static void header(void) {
 /* ---- the ledger */
 
 static void opening(void) {
-    IS(cop6_ledger_length(DAYS), sizeof ledger);
-    IS(cop6_ledger_length(COP6_MOST_DAYS), 51316);
+    IS(cop6_ledger_length(DAYS), COP6_LEDGER_BYTES(DAYS));
+    IS(cop6_ledger_length(COP6_MOST_DAYS), COP6_LEDGER_BYTES(COP6_MOST_DAYS));
     memset(ledger, CLEAR, sizeof ledger);
-    IS(cop6_open(ledger, sizeof ledger, METER, 11, DAY - 1, DAYS), ANSWER(COP6_RANGE, 0));
+    IS(cop6_open(ledger, sizeof ledger, METER, COP6_IDENTIFIER - 1, DAY - 1, DAYS), ANSWER(COP6_RANGE, 0));
     IS(cop6_open(ledger, sizeof ledger, METER, COP6_IDENTIFIER, COP6_NO_DAY, DAYS), ANSWER(COP6_RANGE, 0));
-    IS(cop6_open(ledger, sizeof ledger, METER, COP6_IDENTIFIER, 36523, DAYS), ANSWER(COP6_RANGE, 0));
+    IS(cop6_open(ledger, sizeof ledger, METER, COP6_IDENTIFIER, LAST_DAY - DAYS + 2, DAYS), ANSWER(COP6_RANGE, 0));
     IS(cop6_open(ledger, sizeof ledger, METER, COP6_IDENTIFIER, DAY - 1, 0), ANSWER(COP6_RANGE, 0));
     IS(cop6_open(ledger, sizeof ledger, METER, COP6_IDENTIFIER, DAY - 1, DAYS + 1), ANSWER(COP6_LENGTH, 0));
     IS(clear(ledger, sizeof ledger), 1);
@@ -182,10 +201,10 @@ static void identifier(void) {
     open_ledger();
     IS(cop6_identifier(NULL, 0, out, 0), ANSWER(COP6_LENGTH, 0));
     IS(cop6_identifier(ledger, sizeof ledger - 1, out, sizeof out), ANSWER(COP6_LENGTH, 0));
-    IS(cop6_identifier(ledger, sizeof ledger, out, 11), ANSWER(COP6_SHORT, 12));
-    IS(cop6_identifier(ledger, sizeof ledger, NULL, 0), ANSWER(COP6_SHORT, 12));
+    IS(cop6_identifier(ledger, sizeof ledger, out, COP6_IDENTIFIER - 1), ANSWER(COP6_SHORT, COP6_IDENTIFIER));
+    IS(cop6_identifier(ledger, sizeof ledger, NULL, 0), ANSWER(COP6_SHORT, COP6_IDENTIFIER));
     ledger[LEDGER - 1] = 1;
-    IS(cop6_identifier(ledger, sizeof ledger, out, 11), ANSWER(COP6_DAMAGED, 0));
+    IS(cop6_identifier(ledger, sizeof ledger, out, COP6_IDENTIFIER - 1), ANSWER(COP6_DAMAGED, 0));
     IS(clear(out, sizeof out), 1);
     open_ledger();
     IS(cop6_identifier(ledger, sizeof ledger, out, sizeof out), ANSWER(COP6_DONE, 0));
@@ -197,15 +216,15 @@ static void filing(void) {
     memcpy(ledger_before, ledger, sizeof ledger);
     one_day("240229011000");
     IS(cop6_file(ledger, sizeof ledger - 1, block, block_length), ANSWER(COP6_LENGTH, 0));
-    IS(cop6_file(ledger, sizeof ledger, block, 111), ANSWER(COP6_NO_BLOCK, 0));
-    block[16] = '8';
+    IS(cop6_file(ledger, sizeof ledger, block, COP6_BLOCK_BYTES(0) - 1), ANSWER(COP6_NO_BLOCK, 0));
+    block[HEAD_TIME - 1] = '8';
     IS(cop6_file(ledger, sizeof ledger, block, block_length), ANSWER(COP6_OTHER_METER, 0));
-    block[16] = 'a';
+    block[HEAD_TIME - 1] = 'a';
     IS(cop6_file(ledger, sizeof ledger, block, block_length), ANSWER(COP6_FIELD, 5));
     IS(memcmp(ledger, ledger_before, sizeof ledger), 0);
     file_one_day();
     IS(cop6_file(ledger, sizeof ledger, block, block_length), ANSWER(COP6_DONE, 0));
-    memcpy(block + 118, "00471101", 8);
+    memcpy(RECORD(0) + RECORD_START, "00471101", START_DIGITS);
     IS(cop6_file(ledger, sizeof ledger, block, block_length), ANSWER(COP6_DIFFERS, 0));
     IS(memcmp(ledger, ledger_before, sizeof ledger), 0);
     two_days();
@@ -215,21 +234,21 @@ static void filing(void) {
 static void missing(void) {
     file_one_day();
     IS(cop6_missing(ledger, sizeof ledger, DAY), ANSWER(COP6_DONE, 2 << 16 | 46));
-    IS(cop6_missing(ledger, sizeof ledger, DAY + 1), ANSWER(COP6_DONE, 48));
+    IS(cop6_missing(ledger, sizeof ledger, DAY + 1), ANSWER(COP6_DONE, COP6_HALVES));
     IS(cop6_missing(ledger, sizeof ledger, DAY + 2), ANSWER(COP6_RANGE, 0));
-    IS(cop6_missing(ledger, 15, DAY), ANSWER(COP6_LENGTH, 0));
+    IS(cop6_missing(ledger, COP6_LEDGER_BYTES(0) - 1, DAY), ANSWER(COP6_LENGTH, 0));
     two_days();
     cop6_file(ledger, sizeof ledger, block, block_length);
-    IS(cop6_missing(ledger, sizeof ledger, DAY), ANSWER(COP6_DONE, 48 << 16));
+    IS(cop6_missing(ledger, sizeof ledger, DAY), ANSWER(COP6_DONE, COP6_HALVES << 16));
 }
 
-/* The summary: six numbers, or none of them. */
+/* The summary: all of its numbers, or none. */
 static void summary(void) {
     file_one_day();
     memset(numbers, CLEAR, sizeof numbers);
-    IS(cop6_summary(ledger, sizeof ledger, DAY, numbers, 5), ANSWER(COP6_SHORT, 6));
-    IS(cop6_summary(ledger, sizeof ledger, DAY, NULL, 0), ANSWER(COP6_SHORT, 6));
-    IS(cop6_summary(ledger, sizeof ledger, DAY - 2, numbers, 5), ANSWER(COP6_RANGE, 0));
+    IS(cop6_summary(ledger, sizeof ledger, DAY, numbers, COP6_SUMMARY - 1), ANSWER(COP6_SHORT, COP6_SUMMARY));
+    IS(cop6_summary(ledger, sizeof ledger, DAY, NULL, 0), ANSWER(COP6_SHORT, COP6_SUMMARY));
+    IS(cop6_summary(ledger, sizeof ledger, DAY - 2, numbers, COP6_SUMMARY - 1), ANSWER(COP6_RANGE, 0));
     IS(clear(numbers, sizeof numbers), 1);
     IS(cop6_summary(ledger, sizeof ledger, DAY, numbers, NUMBERS), ANSWER(COP6_DONE, 0));
     IS(numbers[COP6_HELD], 1);
@@ -239,7 +258,7 @@ static void summary(void) {
     IS(numbers[COP6_REVERSE], 0);
     IS(numbers[COP6_LEVEL2], 0);
     IS(clear(numbers + COP6_SUMMARY, sizeof numbers - COP6_SUMMARY * sizeof *numbers), 1);
-    IS(cop6_summary(ledger, sizeof ledger, DAY + 1, numbers, 6), ANSWER(COP6_DONE, 0));
+    IS(cop6_summary(ledger, sizeof ledger, DAY + 1, numbers, COP6_SUMMARY), ANSWER(COP6_DONE, 0));
     for (int i = 0; i < COP6_SUMMARY; i++)
         IS(numbers[i], 0);
 }
@@ -248,7 +267,7 @@ static void summary(void) {
 static void flags(void) {
     open_ledger();
     one_day("240229011000");
-    block[126] = COP6_FLAG_POWER;
+    RECORD(0)[RECORD_FLAGS] = COP6_FLAG_POWER;
     IS(cop6_file(ledger, sizeof ledger, block, block_length), ANSWER(COP6_DONE, 2));
     IS(cop6_flags(ledger, sizeof ledger, DAY), ANSWER(COP6_DONE, 0));
     two_days();
@@ -258,21 +277,21 @@ static void flags(void) {
     IS(cop6_flags(ledger, sizeof ledger, DAY - 1), ANSWER(COP6_DONE, 0));
     IS(cop6_flags(ledger, sizeof ledger, DAY - 2), ANSWER(COP6_RANGE, 0));
     IS(cop6_flags(ledger, sizeof ledger, DAY + 2), ANSWER(COP6_RANGE, 0));
-    IS(cop6_flags(ledger, sizeof ledger - 114, DAY), ANSWER(COP6_LENGTH, 0));
+    IS(cop6_flags(ledger, COP6_LEDGER_BYTES(DAYS - 1), DAY), ANSWER(COP6_LENGTH, 0));
     IS(cop6_flags(NULL, 0, DAY), ANSWER(COP6_LENGTH, 0));
-    ledger[ROOM + 1] = 0xa1;
+    ledger[ROOM + ROOM_FLAGS] = 0xa1;
     IS(cop6_flags(ledger, sizeof ledger, DAY + 2), ANSWER(COP6_DAMAGED, 0));
 }
 
-/* The half-hours: all 48, or none; with marks, in a ledger changed by hand. */
+/* The half-hours: all of them, or none; with marks, in a ledger changed by hand. */
 static void halves(void) {
     file_one_day();
     memset(numbers, CLEAR, sizeof numbers);
-    IS(cop6_halves(ledger, sizeof ledger, DAY, numbers, 47), ANSWER(COP6_SHORT, 48));
-    IS(cop6_halves(ledger, sizeof ledger, DAY + 2, numbers, 48), ANSWER(COP6_RANGE, 0));
+    IS(cop6_halves(ledger, sizeof ledger, DAY, numbers, COP6_HALVES - 1), ANSWER(COP6_SHORT, COP6_HALVES));
+    IS(cop6_halves(ledger, sizeof ledger, DAY + 2, numbers, COP6_HALVES), ANSWER(COP6_RANGE, 0));
     IS(clear(numbers, sizeof numbers), 1);
-    ledger[ROOM + 102] = 0x80;
-    ledger[ROOM + 108] = 0xc0;
+    ledger[ROOM + ROOM_REVERSE] = 0x80;
+    ledger[ROOM + ROOM_LEVEL2] = 0xc0;
     IS(cop6_halves(ledger, sizeof ledger, DAY, numbers, NUMBERS), ANSWER(COP6_DONE, 2));
     IS(COP6_HALF_VALUE(numbers[0]), 1150);
     IS(COP6_HALF_ADVANCE(numbers[0]), 50);
@@ -285,34 +304,36 @@ static void halves(void) {
     for (int j = 2; j < COP6_HALVES; j++)
         IS(numbers[j], 0);
     IS(clear(numbers + COP6_HALVES, 2 * sizeof *numbers), 1);
-    ledger[ROOM + 102] = 0x20;
+    ledger[ROOM + ROOM_REVERSE] = 0x20;
     IS(cop6_halves(ledger, sizeof ledger, DAY, numbers, NUMBERS), ANSWER(COP6_DAMAGED, 0));
 }
 
 /* ---- the longest */
 
-/* The shortest block and the longest, 450 days, read and filed whole; one of a day more is no block. */
+/* The shortest block and the longest, read and filed whole; one of a day more is no block. */
 static void longest(void) {
-    static uint8_t too_long[COP6_BLOCK_BYTES(COP6_MOST_DAYS + 1)], long_block[COP6_BLOCK_BYTES(COP6_MOST_DAYS)], long_ledger[16 + 114 * COP6_MOST_DAYS];
-    IS(sample_block(long_block, 0, DAY, 2, 1), 112);
+    enum { MOST = COP6_MOST_DAYS };
+    static uint8_t too_long[COP6_BLOCK_BYTES(MOST + 1)], long_block[COP6_BLOCK_BYTES(MOST)], long_ledger[COP6_LEDGER_BYTES(MOST)];
+    IS(sample_block(long_block, 0, DAY, 2, 1), COP6_BLOCK_BYTES(0));
     IS(memcmp(long_block, "\0\0\0\x6c\1", 5), 0);
-    IS(cop6_read(long_block, 112), ANSWER(COP6_DONE, 0));
-    IS(sample_block(long_block, 450, DAY, 2, 1), 98662);
+    IS(cop6_read(long_block, COP6_BLOCK_BYTES(0)), ANSWER(COP6_DONE, 0));
+    IS(sample_block(long_block, MOST, DAY, 2, 1), sizeof long_block);
     IS(memcmp(long_block, "\0\1\x81\x62\1", 5), 0);
-    IS(cop6_read(long_block, sizeof long_block), ANSWER(COP6_DONE, 450));
+    IS(cop6_read(long_block, sizeof long_block), ANSWER(COP6_DONE, MOST));
     memcpy(too_long, long_block, sizeof long_block);
-    memcpy(too_long, "\0\1\x82\x3d", 4);
-    memcpy(too_long + sizeof long_block, long_block + sizeof long_block - 219, 219);
+    sample_bytes(too_long, LENGTH_BYTES, sizeof too_long - LENGTH_BYTES);
+    memcpy(too_long + COP6_BLOCK_BYTES(MOST), long_block + COP6_BLOCK_BYTES(MOST - 1), RECORD_BYTES);
     IS(cop6_read(too_long, sizeof too_long), ANSWER(COP6_NO_BLOCK, 0));
-    IS(cop6_header(long_block, sizeof long_block, numbers, 28), ANSWER(COP6_DONE, 450));
-    IS(numbers[COP6_HEAD_DAYS], 450);
-    IS(cop6_open(long_ledger, sizeof long_ledger, METER, COP6_IDENTIFIER, DAY - 449, 450), ANSWER(COP6_DONE, 0));
-    IS(cop6_file(long_ledger, sizeof long_ledger, long_block, sizeof long_block), ANSWER(COP6_DONE, 449 * 48 + 2));
+    IS(cop6_header(long_block, sizeof long_block, numbers, COP6_HEADER), ANSWER(COP6_DONE, MOST));
+    IS(numbers[COP6_HEAD_DAYS], MOST);
+    IS(cop6_open(long_ledger, sizeof long_ledger, METER, COP6_IDENTIFIER, DAY - MOST + 1, MOST), ANSWER(COP6_DONE, 0));
+    IS(cop6_file(long_ledger, sizeof long_ledger, long_block, sizeof long_block), ANSWER(COP6_DONE, (MOST - 1) * COP6_HALVES + 2));
     IS(cop6_file(long_ledger, sizeof long_ledger, long_block, sizeof long_block), ANSWER(COP6_DONE, 0));
-    IS(cop6_differs(long_ledger, sizeof long_ledger, long_block, sizeof long_block, numbers, 4), ANSWER(COP6_DONE, 0));
+    IS(cop6_differs(long_ledger, sizeof long_ledger, long_block, sizeof long_block, numbers, COP6_DIFFERENCE), ANSWER(COP6_DONE, 0));
 }
 
 int main(void) {
+    figures();
     days();
     reading();
     listing();

@@ -3,6 +3,7 @@
 #define CALLS_H
 
 #include "cop6.h"
+#include "layout.h"
 
 /* Says so where a number is not what it should be; main's exit status is 1 then. */
 #define IS(x, y) is(__FILE__, __LINE__, #x, (unsigned long long)(x), (unsigned long long)(y))
@@ -10,12 +11,12 @@ void is(const char *file, int line, const char *what, unsigned long long x, unsi
 
 #define ANSWER(answer, carried) ((uint64_t)(answer) << 32 | (carried))
 
-/* The meter, the day that the blocks are of, 240229, and a ledger of three days, of which that is the middle one, with its room. */
+/* The meter, the day that the blocks are of, 240229, and a ledger of three days, of which that is the middle one, with its room's place. */
 #define METER ((const uint8_t *)"ABCX24000017")
-enum { DAY = 8825, DAYS = 3, LEDGER = 16 + 114 * DAYS, ROOM = 16 + 114, MOST_BLOCK = 112 + 219 * 2, NUMBERS = COP6_HALVES + 2, CLEAR = 0xee };
+enum { DAY = 8825, DAYS = 3, LEDGER = COP6_LEDGER_BYTES(DAYS), ROOM = COP6_LEDGER_BYTES(1), NUMBERS = COP6_HALVES + 2, CLEAR = 0xee };
 
 /* What is lent: a ledger, a block, and numbers to write. */
-extern uint8_t ledger[LEDGER], ledger_before[LEDGER], block[MOST_BLOCK];
+extern uint8_t ledger[LEDGER], ledger_before[LEDGER], block[COP6_BLOCK_BYTES(2)];
 extern uint64_t numbers[NUMBERS];
 extern size_t block_length;
 
@@ -25,8 +26,11 @@ int clear(const void *memory, size_t length);
 /* A frame and header of so many days, all fields 0 but the identifier, the time and the days; returns the block's length. */
 size_t header_of(int days, const char *time);
 
-/* A record at an offset: the date with the start reading, the first value and the second, which the others repeat; no flags and no marks. */
-void record_of(size_t at, const char *date_and_start, const char *value, const char *others);
+/* Record i of the block. */
+#define RECORD(i) (block + COP6_BLOCK_BYTES(i))
+
+/* Writes it: the date with the start reading, the first value and the second, which the others repeat; no flags and no marks. */
+void record_of(size_t i, const char *date_and_start, const char *value, const char *others);
 
 /* A block of one day, 240229, read at the time given: start 00471100, values 1150, 1230 and then 1230. */
 void one_day(const char *time);

@@ -37,7 +37,7 @@ enum {
     COP6_DAMAGED = 5,       /* the ledger has a field out of range, or room that should be zero and isn't */
     COP6_RANGE = 6,         /* an opening value out of range; a day outside the window */
     COP6_SHORT = 7,         /* the output is too short; carries how many elements are needed */
-    COP6_NO_BLOCK = 8,      /* under 112 bytes, length or version wrong, not whole records, over 450 of them */
+    COP6_NO_BLOCK = 8,      /* under COP6_BLOCK_BYTES(0) bytes, length or version wrong, not whole records, over COP6_MOST_DAYS of them */
     COP6_FIELD = 9,         /* a wrong character, an unreal date or time, low flag bits set; carries the offset of the first such field */
     COP6_INCONSISTENT = 10, /* the fields are right one by one and do not go together */
     COP6_OTHER_METER = 11,  /* another identifier than the ledger's */
@@ -46,10 +46,13 @@ enum {
 
 #define COP6_IDENTIFIER 12                     /* bytes of an identifier */
 #define COP6_MOST_DAYS 450                     /* of a block, and of a ledger's window */
-#define COP6_BLOCK_BYTES(days) (112 + 219 * (size_t)(days))
-#define COP6_LISTING_BYTES(days) (30 + 32 * (size_t)(days)) /* also enough for the text of a refusal */
 #define COP6_HALVES 48                         /* half-hours of a day */
 #define COP6_RATES 8                           /* rate registers */
+#define COP6_READING_ROUND 100000000           /* readings are below it: start and advances are summed modulo this */
+#define COP6_VALUE_ROUND 10000                 /* half-hour values and advances are below it */
+#define COP6_BLOCK_BYTES(days) (112 + 219 * (size_t)(days)) /* day record i begins at COP6_BLOCK_BYTES(i) */
+#define COP6_LEDGER_BYTES(days) (16 + 114 * (size_t)(days)) /* what cop6_ledger_length answers, for an array of fixed length */
+#define COP6_LISTING_BYTES(days) (30 + 32 * (size_t)(days)) /* also enough for the text of a refusal */
 
 /* ---- blocks */
 
@@ -60,10 +63,10 @@ uint64_t cop6_read(const uint8_t *block, size_t length);
  * no byte 0 behind them; 0 where `out` is too short, which then stays as it was. The text has COP6_LISTING_BYTES(days) bytes; out's other bytes stay. */
 uint64_t cop6_listing(const uint8_t *block, size_t length, uint8_t *out, size_t room);
 
-/* The header of a block, written as 28 numbers in the block's own order. 0 carries its number of days; 8; 9 carries an offset; 10; 7 carries 28, where
- * `room` is less. Elements past the 28th stay as they were. */
+/* The header of a block, written as COP6_HEADER numbers in the block's own order. 0 carries its number of days; 8; 9 carries an offset; 10; 7 carries
+ * COP6_HEADER, where `room` is less. Elements past these stay as they were. */
 enum {
-    COP6_HEAD_IDENTIFIER,  /* the identifier's twelve characters, a number each */
+    COP6_HEAD_IDENTIFIER,  /* the identifier's characters, a number each */
     COP6_HEAD_TIME = COP6_HEAD_IDENTIFIER + COP6_IDENTIFIER, /* time of reading, in seconds from 2000-01-01 00:00:00 */
     COP6_HEAD_KWH,         /* kWh register */
     COP6_HEAD_CURRENT,     /* current demand, in hundredths of a kW, */
@@ -71,7 +74,7 @@ enum {
     COP6_HEAD_CUMULATIVE,  /* and cumulative demand */
     COP6_HEAD_RESET,       /* last reset: 0 for never, else its day's number plus one */
     COP6_HEAD_RESETS,      /* reset count */
-    COP6_HEAD_RATES,       /* eight rate registers, in kWh */
+    COP6_HEAD_RATES,       /* the rate registers, in kWh */
     COP6_HEAD_DAYS = COP6_HEAD_RATES + COP6_RATES, /* number of days */
     COP6_HEADER            /* how many numbers these are */
 };
@@ -91,8 +94,8 @@ uint32_t cop6_date(uint32_t day);
 /* The bytes that a ledger of so many days needs. */
 uint64_t cop6_ledger_length(uint32_t days);
 
-/* Opens a ledger for a meter, from day `first` on, for 1 to 450 days, all by 2099: every day absent, whatever the bytes were. 6 for an identifier, day
- * or number of days out of range, then 4 where `length` is not cop6_ledger_length(days); carries 0. */
+/* Opens a ledger for a meter, from day `first` on, for 1 to COP6_MOST_DAYS days, all by 2099: every day absent, whatever the bytes were. 6 for an
+ * identifier, day or number of days out of range, then 4 where `length` is not cop6_ledger_length(days); carries 0. */
 uint64_t cop6_open(uint8_t *ledger, size_t length, const uint8_t *identifier, size_t twelve, uint32_t first, uint32_t days);
 
 /* Files a block: each day of the window takes what the block has of it, if that is more. 0 carries how many half-hours became held. 4, 5; of the block
@@ -100,8 +103,8 @@ uint64_t cop6_open(uint8_t *ledger, size_t length, const uint8_t *identifier, si
 uint64_t cop6_file(uint8_t *ledger, size_t length, const uint8_t *block, size_t block_length);
 
 /* What filing a block would be refused with 12 for: the first day of the window, and the first part of that day, of which the ledger and the block have
- * something else. 0 carries 1 where there is one, and four numbers are written; 0 where there is none, and the four are 0. 4, 5, 8, 9, 10 and 11 as
- * cop6_file; then 7 carries 4, where `room` is less. Elements past the fourth stay as they were; the ledger is not changed. */
+ * something else. 0 carries 1 where there is one, and COP6_DIFFERENCE numbers are written; 0 where there is none, and these are 0. 4, 5, 8, 9, 10 and 11
+ * as cop6_file; then 7 carries COP6_DIFFERENCE, where `room` is less. Elements past these stay as they were; the ledger is not changed. */
 enum {
     COP6_DIFFERS_DAY,  /* the day's number */
     COP6_DIFFERS_PART, /* COP6_PART_START, COP6_PART_HALF + j for half-hour j, COP6_PART_FLAGS */
@@ -114,16 +117,19 @@ enum {
 #define COP6_PART_FLAGS (COP6_PART_HALF + COP6_HALVES)
 uint64_t cop6_differs(const uint8_t *ledger, size_t length, const uint8_t *block, size_t block_length, uint64_t *out, size_t room);
 
-/* The meter's identifier, written as twelve characters. 0 carries 0; 4; 5; 7 carries 12, where `room` is less. Bytes past the twelfth stay as they were. */
+/* The meter's identifier, written as COP6_IDENTIFIER characters. 0 carries 0; 4; 5; 7 carries COP6_IDENTIFIER, where `room` is less. Bytes past these stay
+ * as they were. */
 uint64_t cop6_identifier(const uint8_t *ledger, size_t length, uint8_t *out, size_t room);
 
 /* The window. 0 carries its first day, COP6_FIRST, and how many days it has, COP6_COUNT; 4; 5. */
 uint64_t cop6_window(const uint8_t *ledger, size_t length);
 
-/* What is missing of a day. 0 carries the first half-hour not held, COP6_FIRST, 48 where none is missing, and how many are missing, COP6_COUNT; 4; 5; 6. */
+/* What is missing of a day. 0 carries the first half-hour not held, COP6_FIRST, COP6_HALVES where none is missing, and how many are missing, COP6_COUNT;
+ * 4; 5; 6. */
 uint64_t cop6_missing(const uint8_t *ledger, size_t length, uint32_t day);
 
-/* The summary of a day, written as six numbers. 0 carries 0; 4; 5; 6; 7 carries 6, where `room` is less. Elements past the sixth stay as they were. */
+/* The summary of a day, written as COP6_SUMMARY numbers. 0 carries 0; 4; 5; 6; 7 carries COP6_SUMMARY, where `room` is less. Elements past these stay as
+ * they were. */
 enum {
     COP6_HELD,    /* 1 held, 0 absent; then the others are 0 */
     COP6_K,       /* how many half-hours are held, from the day's first on */
@@ -135,14 +141,14 @@ enum {
 };
 uint64_t cop6_summary(const uint8_t *ledger, size_t length, uint32_t day, uint64_t *out, size_t room);
 
-/* The daily flags of a day. 0 carries them, and 0 where fewer than 48 half-hours are held: flags are held of a whole day only; 4; 5; 6. */
+/* The daily flags of a day. 0 carries them, and 0 where fewer than COP6_HALVES half-hours are held: flags are held of a whole day only; 4; 5; 6. */
 #define COP6_FLAG_POWER 0x80u /* power was lost */
 #define COP6_FLAG_METER 0x40u /* the meter was changed */
 #define COP6_FLAG_RESET 0x20u /* the maximum demand was reset */
 uint64_t cop6_flags(const uint8_t *ledger, size_t length, uint32_t day);
 
-/* The half-hours of a day, written as 48 numbers, 0 for one that is not held. 0 carries how many are held, from the first on; 4; 5; 6; 7 carries 48,
- * where `room` is less. Elements past the 48th stay as they were. The macros take one of the numbers apart. */
+/* The half-hours of a day, written as COP6_HALVES numbers, 0 for one that is not held. 0 carries how many are held, from the first on; 4; 5; 6; 7 carries
+ * COP6_HALVES, where `room` is less. Elements past these stay as they were. The macros take one of the numbers apart. */
 #define COP6_HALF_VALUE(half) ((uint32_t)((half) & 0xffffu))
 #define COP6_HALF_ADVANCE(half) ((uint32_t)((half) >> 16 & 0xffffu))
 #define COP6_HALF_REVERSE(half) ((int)((half) >> 32 & 1))

@@ -41,7 +41,7 @@ static void take_scale(const char *text) {
     if (scale.shades == SHADES || found % 2 != 0 || found < 2)
         fail("a scale that can't be read");
     scale.low[scale.shades] = low * 100 + low_part;
-    scale.high[scale.shades] = strstr(text, " and more") != NULL ? 9999 : found == 4 ? high * 100 + high_part : scale.low[scale.shades];
+    scale.high[scale.shades] = strstr(text, " and more") != NULL ? COP6_VALUE_ROUND - 1 : found == 4 ? high * 100 + high_part : scale.low[scale.shades];
     if (scale.low[scale.shades] != (scale.shades == 0 ? 1 : scale.high[scale.shades - 1] + 1) || scale.high[scale.shades] < scale.low[scale.shades])
         fail("a scale with a gap, or one that overlaps");
     scale.shades++;
@@ -89,7 +89,7 @@ static unsigned compare(void) {
 
 int main(int count, char **args) {
     static char page[MOST_BYTES];
-    static uint8_t ledger[COP6_MOST_DAYS * 128];
+    static uint8_t ledger[COP6_LEDGER_BYTES(COP6_MOST_DAYS) + 1];
     FILE *file = count == 2 ? fopen(args[1], "rb") : NULL;
     if (file == NULL)
         fail("no ledger: page_check LEDGER <PAGE");

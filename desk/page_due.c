@@ -150,7 +150,7 @@ static void due_overview(void) {
                 add(due, "rect missing %d 9 ", x);
             if (d.held > 0)
                 add(due, "rect whole %d " KWH " ", x, UNITS(d.held * 900 / COP6_HALVES));
-            add(due, "g %s: %u of 48 half-hours held, " KWH " kWh", date(day, "%F"), d.held, UNITS(d.energy));
+            add(due, "g %s: %u of %d half-hours held, " KWH " kWh", date(day, "%F"), d.held, COP6_HALVES, UNITS(d.energy));
         }
         due_total(&s);
         add(due, s.held < all ? "total %u" : "total ", all - s.held);
@@ -185,14 +185,14 @@ static void due_day(uint32_t day) {
     uint32_t flags = COP6_CARRIED(sure(cop6_flags(ledger, length, day)));
     sure(cop6_summary(ledger, length, day, summary, COP6_SUMMARY));
     add(due, "row day%s %s", *date(day, "%u") >= '6' ? " weekend" : "", date(day, "%F %a"));
-    add(due, "label %s: %u of 48 half-hours held, " KWH " kWh", date(day, "%F"), s.held, UNITS(s.energy));
+    add(due, "label %s: %u of %d half-hours held, " KWH " kWh", date(day, "%F"), s.held, COP6_HALVES, UNITS(s.energy));
     due_halves(day);
     due_total(&s);
     if (summary[COP6_HELD] == 0)
         add(due, "held absent");
     else
-        add(due, s.held < COP6_HALVES ? "held %u of 48" : "held ", s.held);
-    add(due, "flags %s%s%s", flags & 0x80 ? "P" : "", flags & 0x40 ? "M" : "", flags & 0x20 ? "D" : "");
+        add(due, s.held < COP6_HALVES ? "held %u of %d" : "held ", s.held, COP6_HALVES);
+    add(due, "flags %s%s%s", flags & COP6_FLAG_POWER ? "P" : "", flags & COP6_FLAG_METER ? "M" : "", flags & COP6_FLAG_RESET ? "D" : "");
 }
 
 static void due_months(void) {

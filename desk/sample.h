@@ -6,11 +6,16 @@
 #include <stdint.h>
 
 #define SAMPLE_METER "ABCX24000017"
+enum { SAMPLE_ADVANCE = 200 }; /* of a half-hour, more or less */
 
 /* The next of a run of numbers, which is the same for the same seed. */
 uint32_t sample_next(uint64_t *seed);
 
-/* Writes a block of so many days, 0 to 450, read ten minutes after half-hour k of `day` began; returns its length, COP6_BLOCK_BYTES(days).
+/* Writes a number as so many decimal digits, or big-endian as so many bytes. */
+void sample_digits(uint8_t *out, size_t n, uint64_t number);
+void sample_bytes(uint8_t *out, size_t n, uint64_t number);
+
+/* Writes a block of so many days, 0 to COP6_MOST_DAYS, read ten minutes after half-hour k of `day` began; returns its length, COP6_BLOCK_BYTES(days).
  * Blocks of the same life agree with each other. */
 size_t sample_block(uint8_t *out, uint32_t days, uint32_t day, uint32_t k, uint32_t life);
 

@@ -2,10 +2,12 @@
 #ifndef DATES_H
 #define DATES_H
 
+#include "cop6.h"
+
 #include <stdint.h>
 
 #define SECONDS_OF_DAY 86400
-#define SECONDS_OF_HALF 1800
+#define SECONDS_OF_HALF (SECONDS_OF_DAY / COP6_HALVES)
 
 /* A number of digits alone, at most nine of them; -1 where it is none. */
 int number(const char *text, uint32_t *n);

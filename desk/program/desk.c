@@ -21,7 +21,8 @@ static const struct command {
     const char *does;         /* and what it does; one without is another name */
     int (*run)(char **args, int count);
 } commands[] = {
-    {"open", "LEDGER IDENTIFIER DATE DAYS", 4, 4, "open a new ledger: the meter, the window's first day, 1 to 450 days", open_command},
+    {"open", "LEDGER IDENTIFIER DATE DAYS", 4, 4, "open a new ledger: the meter, the window's first day, 1 to " FIGURES(COP6_MOST_DAYS) " days",
+     open_command},
     {"file", "LEDGER BLOCK..", 2, 1 << 30, "file blocks; says what each one brought, and a sum", file_command},
     {"differ", "LEDGER BLOCK", 2, 2, "say where a block first differs from what the ledger holds", differ_command},
     {"summary", "LEDGER [DATE [DATE]]", 1, 3,

@@ -4,6 +4,7 @@
 #include "dates.h"
 #include "page_style.h"
 #include "picture.h"
+#include "say.h"
 
 #include <inttypes.h>
 #include <stdio.h>
@@ -122,7 +123,8 @@ static void print_legend(const struct window *w) {
     print_swatch("s3", "<use href=\"#reverse\"/>", "reverse running");
     print_swatch("s3", "<use href=\"#level2\"/>", "Level 2 access");
     fputs("<li><abbr>P</abbr>power was lost</li>\n<li><abbr>M</abbr>the meter was changed</li>\n<li><abbr>D</abbr>the maximum demand was reset</li>\n"
-          "</ul>\n<p>A day&#8217;s kWh are of the half-hours held; how many these are is said where it is not all 48. Flags are held of whole days only. "
+          "</ul>\n<p>A day&#8217;s kWh are of the half-hours held; how many these are is said where it is not all " FIGURES(COP6_HALVES) ". "
+          "Flags are held of whole days only. "
           "A day is absent where not even its start reading is held. Saturdays and Sundays have a bar before the date.</p>\n",
           stdout);
 }

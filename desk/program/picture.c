@@ -81,7 +81,7 @@ static void draw_missing(const struct day *d) {
 static void draw_day(const struct window *w, const struct day *d) {
     printf("<svg viewBox=\"0 0 %d %d\" preserveAspectRatio=\"none\" role=\"img\" aria-label=\"", WIDTH, HEIGHT);
     print_date(d->number);
-    printf(": %" PRIu32 " of 48 half-hours held, ", d->k);
+    printf(": %" PRIu32 " of %d half-hours held, ", d->k, COP6_HALVES);
     print_kwh(d->advance);
     fputs(" kWh\">\n", stdout);
     for (uint32_t j = 0; j < d->k; j++)
@@ -113,7 +113,7 @@ static void print_day(const struct window *w, const struct day *d) {
     if (!d->held)
         fputs("absent", stdout);
     else if (d->k < COP6_HALVES)
-        printf("%" PRIu32 "<span class=\"of\"> of 48</span>", d->k);
+        printf("%" PRIu32 "<span class=\"of\"> of %d</span>", d->k, COP6_HALVES);
     fputs("</td><td class=\"flags\">", stdout);
     print_flags(d->flags);
     fputs("</td></tr>\n", stdout);
@@ -166,7 +166,7 @@ static void draw_square(const struct day *d) {
     uint32_t x = (cop6_date(d->number) % 100 - 1) * SQUARE, filled = d->k * 900 / COP6_HALVES;
     fputs("<g><title>", stdout);
     print_date(d->number);
-    printf(": %" PRIu32 " of 48 half-hours held, ", d->k);
+    printf(": %" PRIu32 " of %d half-hours held, ", d->k, COP6_HALVES);
     print_kwh(d->advance);
     fputs(" kWh</title>", stdout);
     if (d->k < COP6_HALVES)

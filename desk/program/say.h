@@ -18,6 +18,10 @@ int trouble_with(const char *name);
 int refused(const char *name, uint64_t r);
 int refused_for(const char *name, uint32_t answer, const char *format, ...) __attribute__((format(printf, 3, 4)));
 
+/* The figures of a number that has a name, as text. */
+#define FIGURES(number) FIGURES_OF(number)
+#define FIGURES_OF(number) #number
+
 /* The end of a word of which there are n. */
 const char *plural(uint64_t n);
 

@@ -33,7 +33,7 @@ static uint32_t choose_step(const struct window *w) {
     for (size_t i = 0; i < sizeof steps / sizeof steps[0]; i++)
         if (100 * above(w, SHADES * (uint32_t)steps[i]) <= 3 * some)
             return steps[i];
-    return 1250; /* over all: an advance is at most 9,999 */
+    return COP6_VALUE_ROUND / SHADES; /* over all advances */
 }
 
 int take_window(const uint8_t *ledger, size_t length, struct window *w) {

@@ -17,7 +17,7 @@ record() { # DATE START FLAGS REVERSE LEVEL2 VALUE..
     hex "$3"
     local reverse=$4 level2=$5
     shift 5
-    for ((j = 0; j < 48; j++)); do
+    for ((j = 0; j < halves; j++)); do
         if [ $# -gt 0 ]; then
             last=$1
             shift
@@ -28,12 +28,14 @@ record() { # DATE START FLAGS REVERSE LEVEL2 VALUE..
     hex "$level2"
 }
 
-# A block of the records on standard input, with nothing in its registers unless their 80 digits are given.
+# A block of the records on standard input, with nothing in its registers unless their digits are given: all of the header between the time and the days.
 block() { # IDENTIFIER TIME DAYS [REGISTERS]
-    hex "$(printf '%08x01' $((108 + 219 * $3)))"
+    local days
+    days=$(printf '%03d' "$3")
+    hex "$(printf '%08x01' $(($(block_bytes "$3") - 4)))"
     printf '%s%s' "$1" "$2"
-    if [ $# -gt 3 ]; then printf '%s' "$4"; else printf '0%.0s' {1..80}; fi
-    printf '%03d' "$3"
+    if [ $# -gt 3 ]; then printf '%s' "$4"; else printf '%0*d' $((head_bytes - 5 - ${#1} - ${#2} - ${#days})) 0; fi
+    printf '%s' "$days"
     cat
 }
 
@@ -41,7 +43,7 @@ block() { # IDENTIFIER TIME DAYS [REGISTERS]
 values() { # BEFORE STEP FROM TO
     local v=$1 j
     for ((j = $3; j < $4; j++)); do
-        v=$(((v + $2 * (1 + (j * 5 + 3) % 11)) % 10000))
+        v=$(((v + $2 * (1 + (j * 5 + 3) % 11)) % value_round))
         printf '%04d ' $v
     done
 }
@@ -69,8 +71,8 @@ small_blocks() {
     record 240229 00471100 00 $none $none 1150 1230 | block $meter 240228011000 1 >"$blocks/other_day"
     record 230229 00471100 00 $none $none 1150 1230 | block $meter 240229011000 1 >"$blocks/no_such_date"
     block $meter 240229011000 0 </dev/null >"$blocks/no_days"
-    head -c 330 "$blocks/at_0110" >"$blocks/cut"
-    head -c 200000 /dev/zero >"$blocks/too_long"
+    head -c -1 "$blocks/at_0110" >"$blocks/cut"
+    head -c $((2 * $(block_bytes "$most_days"))) /dev/zero >"$blocks/too_long"
     : >"$blocks/empty"
 }
 
@@ -79,9 +81,9 @@ three_days() { # FLAGS
     # shellcheck disable=SC2046
     record 240301 00475888 00 $none 000001000000 $(values 5888 9 0 24)
     # shellcheck disable=SC2046
-    record 240229 00471100 "$1" 0000f0000000 000030000001 1150 1230 1310 1400 $(values 1400 17 4 48)
+    record 240229 00471100 "$1" 0000f0000000 000030000001 1150 1230 1310 1400 $(values 1400 17 4 "$halves")
     # shellcheck disable=SC2046
-    record 240228 00466492 00 $none 800000000000 $(values 6492 16 0 48)
+    record 240228 00466492 00 $none 800000000000 $(values 6492 16 0 "$halves")
 }
 
 # Days of another meter's life, in which nothing is drawn: they join whatever days they are.
@@ -113,7 +115,7 @@ many_blocks() {
         # shellcheck disable=SC2046
         one_day 24040${day}113000 00001234 00 $none $none $(values 1234 3 0 23) >"$blocks/day_$((2 * day - 1))"
         # shellcheck disable=SC2046
-        one_day 24040${day}235959 00001234 00 $none $none $(values 1234 3 0 47) >"$blocks/day_$((2 * day))"
+        one_day 24040${day}235959 00001234 00 $none $none $(values 1234 3 0 $((halves - 1))) >"$blocks/day_$((2 * day))"
     done
 }
 

@@ -31,8 +31,8 @@ usage_and_opening() {
     expect open_date open m.ledger $meter 2024-02-28 3
     expect open_no_number open m.ledger $meter 240228 three
     expect open_identifier open m.ledger abcx24000017 240228 3
-    expect open_identifier_short open m.ledger ABCX2400001 240228 451
-    expect open_days open m.ledger $meter 240228 451
+    expect open_identifier_short open m.ledger ABCX2400001 240228 $((most_days + 1))
+    expect open_days open m.ledger $meter 240228 $((most_days + 1))
     expect open_no_days open m.ledger $meter 240228 0
     expect open_past_2099 open m.ledger $meter 991231 2
     expect open_new open m.new $meter 240228 3
@@ -153,9 +153,9 @@ asking() {
 }
 
 damaged_ledgers() {
-    head -c 357 n.ledger >short.ledger
+    head -c -1 n.ledger >short.ledger
     cp n.ledger damaged.ledger
-    hex ff | dd of=damaged.ledger bs=1 seek=200 conv=notrunc status=none
+    hex ff | dd of=damaged.ledger bs=1 seek=$(($(wc -c <n.ledger) / 2)) conv=notrunc status=none
     : >empty.ledger
     cp damaged.ledger as_it_was
     for ledger in short damaged empty; do
@@ -220,7 +220,7 @@ standard() {
 
 # The longest window that a ledger may have, up to the last day of all.
 longest() {
-    expect open_longest open longest.ledger $meter 981008 450
+    expect open_longest open longest.ledger $meter "$(last_window)" "$most_days"
     holds 'a ledger of 450 days has 51,316 bytes' [ "$(wc -c <longest.ledger)" = 51316 ]
     expect longest_missing missing longest.ledger
     rm longest.ledger
