@@ -18,6 +18,7 @@ use Rattle.recorder.specs.Recorder.{Mem}
 use Rattle.recorder.specs.Recorder as recorder
 use Rattle.recorder.specs.Range.{inRange}
 use Rattle.recorder.specs.Answer.{noClass, unitsAfter, eventAnswer, answerWith, answerOf}
+use Rattle.recorder.specs.Cause.{mostUnits}
 use Rattle.recorder.proofs.Ranges as ranges
 use Rattle.assurance.specs.Paper.{Paper, now, totalAt, unitsOf}
 use Rattle.assurance.specs.Written.{energyOf, due}
@@ -35,12 +36,12 @@ low-of t x e = omega arith
 sum-of : (x y w : ℕ) → y ≤ x → x / 10 - y / 10 + ((x + w) / 10 - x / 10) ≡ (x + w) / 10 - y / 10
 sum-of x y w l = omega arith
 
-units-same : (t b w x y : ℕ) → t ≡ x % 1000000000 → b ≡ y / 10 % 100000000 → y ≤ x → x / 10 - y / 10 ≤ 9999
+units-same : (t b w x y : ℕ) → t ≡ x % 1000000000 → b ≡ y / 10 % 100000000 → y ≤ x → x / 10 - y / 10 ≤ mostUnits
     → (t / 10 % 100000000 + 100000000 - b % 100000000) % 100000000 + ((t + w) / 10 - t / 10) ≡ (x + w) / 10 - y / 10
 units-same t b w x y et eb up slow =
     rw (more-of t w x et, low-of t x et, eb, mod-mod (y / 10) 100000000, round-less 100000000 (x / 10) (y / 10) (omega arith) (omega arith)) (sum-of x y w up)
 
-slow-at : (s : SetUp) (p : Paper) (x : Mem) → Kept s p x → totalAt s (p .tape .counts) (suc (now p)) / 10 - totalAt s (p .tape .counts) (now p) / 10 ≤ 9999
+slow-at : (s : SetUp) (p : Paper) (x : Mem) → Kept s p x → totalAt s (p .tape .counts) (suc (now p)) / 10 - totalAt s (p .tape .counts) (now p) / 10 ≤ mostUnits
 unfolding unitsOf
 slow-at s p x k = k .at .energy .slow (now p)
 

@@ -22,7 +22,7 @@ use Rattle.ledger.specs.Layout.{firstOf, daysOf}
 use Rattle.ledger.specs.Rooms.{slot}
 use Rattle.ledger.specs.Judged.{judged}
 use Rattle.rooms.specs.View.{viewOf}
-use Rattle.filing.specs.File.{identAt, sameMeter, agreeAt, agrees, readOf, fileOf}
+use Rattle.filing.specs.File.{comparedLength, identAt, sameMeter, agreeAt, agrees, readOf, fileOf}
 use Rattle.filing.proofs.Filing.{file-answer}
 use Rattle.filing.proofs.Answers.{answer-is}
 use Rattle.assurance.specs.Causes.{Alike, SameIdentifier, AllAlike, Causes}
@@ -101,8 +101,8 @@ module _ (l b : List ℕ) where
   meter-is : (sameMeter l b ≡ true) ↔ SameIdentifier l b
   unfolding sameMeter identAt
   meter-is = (
-    λ e q h. rw zero-add at (eqb-true (getD l (0 + q) 0) (getD b (5 + (0 + q)) 0) (all-at (identAt l b) 12 e q h)),
-    λ s. all-of (identAt l b) 12 (λ q h. rw zero-add (eq-eqb (getD l q 0) (getD b (5 + q) 0) (s q h))),
+    λ e q h. rw zero-add at (eqb-true (getD l (0 + q) 0) (getD b (5 + (0 + q)) 0) (all-at (identAt l b) comparedLength e q h)),
+    λ s. all-of (identAt l b) comparedLength (λ q h. rw zero-add (eq-eqb (getD l q 0) (getD b (5 + q) 0) (s q h))),
   )
 
   days-are : (agrees l b ≡ true) ↔ AllAlike l b

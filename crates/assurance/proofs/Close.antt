@@ -21,12 +21,13 @@ use Rattle.recorder.specs.declared.SetUp.{SetUp}
 use Rattle.recorder.specs.declared.Recorder.{Recorder}
 use Rattle.recorder.specs.Recorder.{Mem, readingNow}
 use Rattle.recorder.specs.Boundary.{daysAfter, ended, closeOne}
+use Rattle.recorder.specs.Cause.{mostUnits}
 use Rattle.assurance.specs.Paper.{Tape, totalAt, unitsOf, flagsOf, largest}
 use Rattle.assurance.proofs.Kept.{Stored, EnergyKept, DemandKept, RunningKept, ValuesKept, MarksKept, StoreKept, KeptAt, capOf, firstDay, reached, cap-is}
 use Rattle.assurance.proofs.Rooms.{closed-values, closed-marks, closed-flags, opened-values, opened-marks, opened-flags, new-values, new-marks, new-flags}
 
 -- the difference modulo 10,000 is the units passed, if they are at most 9,999
-pub advance-of : (a b x y : ℕ) → a ≡ x % 10000 → b ≡ y % 10000 → y ≤ x → x - y ≤ 9999 → advance b a ≡ x - y
+pub advance-of : (a b x y : ℕ) → a ≡ x % 10000 → b ≡ y % 10000 → y ≤ x → x - y ≤ mostUnits → advance b a ≡ x - y
 advance-of a b x y p q up slow = rw (p, q, mod-mod x 10000, mod-mod y 10000) (round-less 10000 x y up (omega arith))
 
 -- the largest takes one more

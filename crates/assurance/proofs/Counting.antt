@@ -16,6 +16,7 @@ use Rattle.registers.specs.Energy.{noEnergy, addedOf, energyCounted}
 use Rattle.recorder.specs.declared.SetUp.{SetUp}
 use Rattle.recorder.specs.Recorder.{Mem, with}
 use Rattle.recorder.specs.Effect as effect
+use Rattle.recorder.specs.Cause.{mostUnits}
 use Rattle.assurance.specs.Paper.{Counts, Tape, totalAt, unitsOf, largest}
 use Rattle.assurance.specs.Written.{counted, addAfter, addAt}
 use Rattle.assurance.proofs.Kept.{EnergyKept, KeptAt, capOf, reached}
@@ -55,7 +56,7 @@ module _ (s : SetUp) (p : Tape) (q i w : ℕ) where
         (λ z. rw (z, total-kept q (omega arith), total-more (suc q) (omega arith)) (omega (arith, g .up q)))
         (λ z. rw (total-kept h (omega arith), total-kept (suc h) (omega arith)) (g .up h)))
 
-    slow-count : (totalAt s c (suc q) + w) / 10 - totalAt s c q / 10 ≤ 9999 → (h : ℕ) → unitsOf s c′ h ≤ 9999
+    slow-count : (totalAt s c (suc q) + w) / 10 - totalAt s c q / 10 ≤ mostUnits → (h : ℕ) → unitsOf s c′ h ≤ mostUnits
     unfolding unitsOf
     slow-count few h =
         by-dec (decLt q h)
@@ -101,7 +102,7 @@ module _ (s : SetUp) (p : Tape) (q n : ℕ) (x : Mem) (g : KeptAt s p q x) where
   abbrev i : ℕ
   i = e .rate - 1
 
-  pub count-kept : (totalAt s (p .counts) (suc q) + more .0) / 10 - totalAt s (p .counts) q / 10 ≤ 9999
+  pub count-kept : (totalAt s (p .counts) (suc q) + more .0) / 10 - totalAt s (p .counts) q / 10 ≤ mostUnits
       → KeptAt s (counted q i (more .0) p) q (with x (effect.counted n (x .recorder)))
   unfolding energyCounted
   count-kept few = record {

@@ -18,6 +18,7 @@ use Rattle.registers.specs.Energy.{noEnergy}
 use Rattle.recorder.specs.declared.SetUp.{SetUp}
 use Rattle.recorder.specs.declared.Identity.{Identity}
 use Rattle.recorder.specs.Recorder.{Mem}
+use Rattle.recorder.specs.Cause.{mostUnits}
 use Rattle.assurance.specs.Paper.{Counts, Marks, Demands, Tape, Paper, now, totalAt, unitsOf, peakOf, flagsOf}
 
 abbrev pub capOf : SetUp → ℕ
@@ -56,7 +57,7 @@ pub record Stored (s : SetUp) (q d : ℕ) : Type 0 where
 -- totals never fall, no half-hour passes 9,999 units, and nothing is counted of what is to come
 pub record EnergyKept (s : SetUp) (c : Counts) (q : ℕ) (e : Energy) : Type 0 where
   pub up : (h : ℕ) → totalAt s c h ≤ totalAt s c (suc h)
-  pub slow : (h : ℕ) → unitsOf s c h ≤ 9999
+  pub slow : (h : ℕ) → unitsOf s c h ≤ mostUnits
   pub flat : (h : ℕ) → q < h → totalAt s c h ≡ totalAt s c (suc q)
   pub total : e .total .0 ≡ totalAt s c (suc q) % 1000000000
   pub rates-long : length (e .rates) ≡ 8

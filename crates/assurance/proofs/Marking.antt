@@ -17,6 +17,7 @@ use Rattle.recorder.specs.declared.Recorder.{Recorder}
 use Rattle.recorder.specs.Recorder.{Mem, with}
 use Rattle.recorder.specs.Effect.{flagToday, switchedOff, lastIs, rateIs, wasReset}
 use Rattle.recorder.specs.Effect as effect
+use Rattle.recorder.specs.Cause.{mostUnits}
 use Rattle.assurance.specs.Paper.{Flags, Tape, unitsOf, flagsOf, largest, peakOf}
 use Rattle.assurance.specs.Written.{accessed, reversed, metered, resetOn, markAt}
 use Rattle.assurance.proofs.Flags.{with-meter, with-reset}
@@ -31,7 +32,7 @@ mark-here : (q : ℕ) (f : ℕ → Bool) → markAt q f q ≡ true
 unfolding markAt
 mark-here q f = or-some (f q) (eqb q q) (eq-eqb q q refl)
 
-pub largest-le : (f : ℕ → ℕ) (from n : ℕ) → ((h : ℕ) → f h ≤ 9999) → largest f from n ≤ 9999
+pub largest-le : (f : ℕ → ℕ) (from n : ℕ) → ((h : ℕ) → f h ≤ mostUnits) → largest f from n ≤ mostUnits
 unfolding largest
 largest-le f from zero e = omega arith
 largest-le f from (suc n) e = omega (arith, largest-le f from n e, e (from + n))

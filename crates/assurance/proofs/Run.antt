@@ -24,6 +24,7 @@ use Rattle.recorder.specs.Effect as effect
 use Rattle.recorder.specs.Answer.{inTime, eventChecks, eventAnswer}
 use Rattle.recorder.specs.Step.{step, run}
 use Rattle.recorder.specs.SetUp.{setUpAnswer, setUp, made}
+use Rattle.recorder.specs.Cause.{mostUnits}
 use Rattle.assurance.specs.Paper.{Tape, Paper, now, totalAt}
 use Rattle.assurance.specs.Written.{counted, accessed, energyOf, unitsWith, writes, due, written, blankPaper, writtenAll, paper}
 use Rattle.assurance.proofs.Kept.{Given, KeptAt, Kept}
@@ -41,9 +42,9 @@ module _ (s : SetUp) (p : Paper) where
   unfolding due eventAnswer
   none e d = none-fails (eventChecks (p .on) (p .time) (unitsWith s p) e) refl d
 
-  few : (c : ℕ) → due s p (Count c) ≡ 0 → (totalAt s (p .tape .counts) (suc (now p)) + energyOf s p c) / 10 - totalAt s (p .tape .counts) (now p) / 10 ≤ 9999
+  few : (c : ℕ) → due s p (Count c) ≡ 0 → (totalAt s (p .tape .counts) (suc (now p)) + energyOf s p c) / 10 - totalAt s (p .tape .counts) (now p) / 10 ≤ mostUnits
   unfolding unitsWith
-  few c d = ltb-false 9999 _ (none (Count c) d .1 .1 .1 .0)
+  few c d = ltb-false mostUnits _ (none (Count c) d .1 .1 .1 .0)
 
   timely : (t : ℕ) → not (inTime (p .time) t) ≡ false → (p .time ≤ t) × (t < 3155760000)
   timely t e =

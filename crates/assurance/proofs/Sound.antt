@@ -38,6 +38,7 @@ use Rattle.judgement.proofs.Writable.{taken-filled}
 use Rattle.store.specs.Store.{Store}
 use Rattle.recorder.specs.declared.SetUp.{SetUp}
 use Rattle.recorder.specs.Recorder.{Mem}
+use Rattle.recorder.specs.Cause.{mostUnits}
 use Rattle.recorder.proofs.Answers.{days-few}
 use Rattle.assurance.specs.Paper.{Counts, Paper, now, today, totalAt, unitsOf, flagsOf, historyOf}
 use Rattle.assurance.specs.Sent.{storedDays, headerDue, dayDue}
@@ -48,7 +49,7 @@ use Rattle.assurance.proofs.Sending.{ended-reached, ringOf, stored, roo
 
 -- ---- a day leads to the next
 
-module _ (s : SetUp) (c : Counts) (up : (h : ℕ) → totalAt s c h ≤ totalAt s c (suc h)) (slow : (h : ℕ) → unitsOf s c h ≤ 9999) (d : ℕ) where
+module _ (s : SetUp) (c : Counts) (up : (h : ℕ) → totalAt s c h ≤ totalAt s c (suc h)) (slow : (h : ℕ) → unitsOf s c h ≤ mostUnits) (d : ℕ) where
   abbrev reading : ℕ → ℕ
   reading j = totalAt s c (48 * d + suc j) / 10 % 100000000
 

@@ -11,7 +11,7 @@ use Rattle.days.specs.View.{offer}
 use Rattle.ledger.specs.Layout.{firstOf, daysOf}
 use Rattle.ledger.specs.Rooms.{slot}
 use Rattle.rooms.specs.View.{viewOf}
-use Rattle.filing.specs.File.{fileOf}
+use Rattle.filing.specs.File.{comparedLength, fileOf}
 
 -- what two holdings of one day both have is the same: start, values and marks, and the flags where both are complete
 pub record Alike (x y : Day) : Type 0 where
@@ -22,7 +22,7 @@ pub record Alike (x y : Day) : Type 0 where
 module _ (l b : List ℕ) where
   -- the ledger's twelve characters are the block's
   abbrev pub SameIdentifier : Type 0
-  SameIdentifier = (q : ℕ) → q < 12 → getD l q 0 ≡ getD b (5 + q) 0
+  SameIdentifier = (q : ℕ) → q < comparedLength → getD l q 0 ≡ getD b (5 + q) 0
 
   -- every day of the window, as held and as offered
   abbrev pub AllAlike : Type 0

@@ -9,6 +9,7 @@ use lib.Dec.{eqb}
 use lib.ListN.{length}
 use lib.Seq.{sets}
 use Rattle.laws.specs.Checks.{firstFailing}
+use Rattle.format.specs.Identifier.{identLength}
 use Rattle.block.specs.declared.Header.{Header}
 use Rattle.block.specs.Answers.{answer, answerOf}
 use Rattle.block.specs.Layout.{renderBlock}
@@ -115,7 +116,7 @@ pub record Demand2 : Type 0 where
   pub says : (x : Mem) (cs : List Call) (b : List ℕ) (r : ReadIn x cs b) → let c = runAll x (r .earlier) .recorder .clock in
       (viewOf b .time ≡ c .time) × (viewOf b .days ≡ min (r .asked) (c .days))
   -- what a read sends has the recorder's registers, as `fields` gives its header
-  pub header : (asked : ℕ) (x : Mem) (out : List ℕ) → length (x .recorder .identity .identifier) ≡ 12 → readOf asked x out .answer .number ≡ 0
+  pub header : (asked : ℕ) (x : Mem) (out : List ℕ) → length (x .recorder .identity .identifier) ≡ identLength → readOf asked x out .answer .number ≡ 0
       → Registers (x .recorder) (headerIn (blockOf (readOf asked x out)))
   -- a block written from given fields reads back as these
   pub writes : (h : Header) (n : ℕ) (v s m out : List ℕ) → length (h .rates) ≡ rateCount → writeOf h n v s m out .answer .number ≡ 0

@@ -10,6 +10,7 @@ use Rattle.laws.specs.Table.{table}
 use Rattle.calendar.specs.Calendar.{daysInAll, dateOf}
 use Rattle.calendar.specs.Clock.{halvesOfDay}
 use Rattle.calendar.specs.Digits.{dateDigits, dayOn}
+use Rattle.format.specs.Identifier.{identLength, letterOf}
 use Rattle.block.specs.Answers.{answer}
 use Rattle.days.specs.Day.{flagsOf, count}
 use Rattle.ledger.specs.Layout.{lengthOf, firstOf, daysOf}
@@ -22,7 +23,7 @@ use Rattle.filing.specs.File.{readOf}
 use Rattle.filing.specs.Differs.{differsOf}
 use Rattle.lines.specs.Listing.{shown, shownLength}
 use Rattle.desk.specs.Numbers.{answerPlace, oneNumber, answerIn, carriedIn, firstAndCount, missingNumber, flagsNumber, windowNumber, dayOrNone}
-use Rattle.desk.specs.Given.{Gives, letterOf, headerRow, giveHeader, differenceRow, giveDiffers, giveIdentifier, summaryRow, giveSummary, halfNumber, giveHalves}
+use Rattle.desk.specs.Given.{Gives, headerRow, giveHeader, differenceRow, giveDiffers, giveIdentifier, summaryRow, giveSummary, halfNumber, giveHalves}
 
 pub record ForC : Type 0 where
   -- every function: an answer and what it carries are told apart again. (cop6_read, cop6_open and cop6_file give those of the reader, of opening and of filing)
@@ -30,7 +31,7 @@ pub record ForC : Type 0 where
   -- cop6_header, cop6_differs, cop6_identifier, cop6_summary, cop6_halves: the answer, the row that is given, and what is carried with it
   pub header : (b out : List ℕ) → Gives (giveHeader b out) out (readOf b) (headerRow (headerIn b) (readOf b .carried)) (readOf b .carried)
   pub differs : (l b out : List ℕ) → let d = differsOf l b in Gives (giveDiffers l b out) out (answer (d .number) (d .carried)) (differenceRow d) (d .carried)
-  pub identifier : (l out : List ℕ) → Gives (giveIdentifier l out) out (answer (judged l) 0) (table 12 (letterOf l)) 0
+  pub identifier : (l out : List ℕ) → Gives (giveIdentifier l out) out (answer (judged l) 0) (table identLength (letterOf l)) 0
   pub summary : (l : List ℕ) (d : ℕ) (out : List ℕ) → Gives (giveSummary l d out) out (answer (summaryOf l d .answer) 0) (summaryRow (summaryOf l d)) 0
   pub halves : (l : List ℕ) (d : ℕ) (out : List ℕ) → let y = slot l (d - firstOf l) in
       Gives (giveHalves l d out) out (answer (asked l d) 0) (table halvesOfDay (halfNumber y)) (count y)

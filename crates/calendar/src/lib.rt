@@ -41,13 +41,13 @@ pub struct Spot {
 
 pub const DAYS_IN_ALL: u32 = 36525;
 
-pub const SECONDS_OF_DAY: u64 = 86400;
+pub const HALVES: u32 = 48;
 
 pub const SECONDS_OF_HALF: u64 = 1800;
 
-pub const TIMES_IN_ALL: u64 = 3155760000;
+pub const SECONDS_OF_DAY: u64 = HALVES as u64 * SECONDS_OF_HALF;
 
-pub const HALVES: u32 = 48;
+pub const TIMES_IN_ALL: u64 = DAYS_IN_ALL as u64 * SECONDS_OF_DAY;
 
 // Of the months of a common year, and the days before each of them.
 const LENGTHS: [u32; 12] = [31, 28, 31, 30, 31, 30, 31, 31, 30, 31, 30, 31];

@@ -28,8 +28,9 @@ use Rattle.filing.specs.Differs.{differsOf}
 use Rattle.filing.specs.declared.Difference.{Difference}
 use Rattle.fields.specs.Views.{headerIn}
 use Rattle.desk.specs.Numbers.{oneNumber, numberOf, flagsNumber}
-use Rattle.desk.specs.Given.{given, giveRow, giveFound, headerNumbers, letterOf, rateOf, totalsRow, headerRow, giveHeader, differenceRow, giveDiffers, giveIdentifier}
-use Rattle.desk.proofs.Rows.{row-side}
+use Rattle.format.specs.Identifier.{letterOf}
+use Rattle.desk.specs.Given.{given, giveRow, giveFound, headerNumbers, rateOf, totalsRow, headerRow, giveHeader, differenceRow, giveDiffers, giveIdentifier}
+use Rattle.laws.proofs.Rows.{row-side}
 use Rattle.desk.proofs.Laws.{row-refused, row-short, row-given, answer-asked, halves-asked}
 
 -- ---- a row, where a refusal carries something
@@ -49,10 +50,6 @@ module _ (out xs : List ℕ) (a : Answer) (r : ℕ) where
     found-given m e h f = rw (eq-eqb (a .number) 0 z) (row-given out xs 0 (a .carried) r refl n len m e h f)
 
 -- ---- the header
-
-pub letter-is : (id : List ℕ) (i v : ℕ) → v ≡ getD id i 0 → v ≡ letterOf id i
-unfolding letterOf
-letter-is id i v e = e
 
 pub rate-is : (rates : List KilowattHours) (i : ℕ) → getD rates i (kilowattHours 0) .0 ≡ rateOf rates i
 unfolding rateOf

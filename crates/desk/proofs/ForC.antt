@@ -27,7 +27,8 @@ use Rattle.fields.specs.Views.{headerIn}
 use Rattle.filing.specs.File.{readOf}
 use Rattle.filing.specs.Differs.{differsOf}
 use Rattle.desk.specs.Numbers.{answerPlace, oneNumber, answerIn, carriedIn, firstAndCount, missingNumber, flagsNumber, windowNumber, noDay, dayOrNone}
-use Rattle.desk.specs.Given.{giveRow, giveFound, Gives, letterOf, headerRow, giveHeader, differenceRow, giveDiffers, giveIdentifier, summaryRow, giveSummary, halfNumber, giveHalves}
+use Rattle.format.specs.Identifier.{letterOf}
+use Rattle.desk.specs.Given.{giveRow, giveFound, Gives, headerRow, giveHeader, differenceRow, giveDiffers, giveIdentifier, summaryRow, giveSummary, halfNumber, giveHalves}
 
 pub apart : (a c : ℕ) → c < answerPlace → (answerIn (oneNumber a c) ≡ a) × (carriedIn (oneNumber a c) ≡ c)
 apart a c h = (omega arith, omega arith)

@@ -12,6 +12,7 @@ use Rattle.laws.specs.Bits.{bit}
 use Rattle.laws.specs.Table.{table}
 use Rattle.quantity.specs.declared.KilowattHours.{KilowattHours}
 use Rattle.quantity.specs.Units.{kilowattHours}
+use Rattle.format.specs.Identifier.{identLength, letterOf}
 use Rattle.block.specs.Answers.{answer}
 use Rattle.block.specs.declared.Answer.{Answer}
 use Rattle.block.specs.declared.Header.{Header}
@@ -59,9 +60,6 @@ pub record Gives (g : Given) (out : List ℕ) (a : Answer) (xs : List ℕ) (c : 
 abbrev pub headerNumbers : ℕ
 headerNumbers = 28
 
-unfoldable pub letterOf : List ℕ → ℕ → ℕ
-letterOf id q = getD id q 0
-
 unfoldable pub rateOf : List KilowattHours → ℕ → ℕ
 rateOf rates i = getD rates i (kilowattHours 0) .0
 
@@ -69,7 +67,7 @@ abbrev pub totalsRow : Header → List ℕ
 totalsRow h = h .time ∷ h .kwh .0 ∷ h .current .0 ∷ h .previous .0 ∷ h .cumulative .0 ∷ h .reset ∷ h .count ∷ []
 
 unfoldable pub headerRow : Header → ℕ → List ℕ
-headerRow h n = table 12 (letterOf (h .identifier)) ++ (totalsRow h ++ (table 8 (rateOf (h .rates)) ++ (n ∷ [])))
+headerRow h n = table identLength (letterOf (h .identifier)) ++ (totalsRow h ++ (table 8 (rateOf (h .rates)) ++ (n ∷ [])))
 
 -- the answer carries the number of days
 unfoldable pub giveHeader : List ℕ → List ℕ → Given
@@ -86,7 +84,7 @@ giveDiffers l b out = giveFound out (answer (differsOf l b .number) (differsOf l
 -- ---- a ledger's identifier
 
 unfoldable pub giveIdentifier : List ℕ → List ℕ → Given
-giveIdentifier l out = giveRow out (judged l) (table 12 (letterOf l)) 0
+giveIdentifier l out = giveRow out (judged l) (table identLength (letterOf l)) 0
 
 -- ---- a day's summary: held, k, start, summed advance, counts of reverse and Level 2 marks
 

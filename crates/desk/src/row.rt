@@ -5,36 +5,32 @@ ghost use Prim.Native.Nat.{_≤_};
 ghost use lib.ListN.{length};
 ghost use lib.Seq.{sets};
 ghost use Rattle.laws.specs.Table.{table};
-ghost use Rattle.desk.specs.Given.{headerNumbers, letterOf, rateOf, headerRow, summaryRow};
-use crate::IDENTIFIER;
+ghost use Rattle.format.specs.Identifier.{letterOf};
+ghost use Rattle.desk.specs.Given.{headerNumbers, rateOf, headerRow, summaryRow};
+use crate::HEAD_CUMULATIVE;
+use crate::HEAD_CURRENT;
+use crate::HEAD_DAYS;
+use crate::HEAD_KWH;
+use crate::HEAD_PREVIOUS;
+use crate::HEAD_RATES;
+use crate::HEAD_RESET;
+use crate::HEAD_RESETS;
+use crate::HEAD_TIME;
 use block::Header;
 use ledger::SummaryAnswer;
 use quantity::KilowattHours;
-
-const RATES: usize = 8;
-
-fn put_letters(out: &mut [u64], id: [u8; 12])
-    requires { ⌜ headerNumbers ≤ length (now out) ⌝ }
-    ensures { λ _. ⌜ now (out .exit) ≡ sets (now (out .entry)) 0 (table 12 (letterOf id)) ⌝ }
-{
-    let mut i: usize = 0;
-    while i < IDENTIFIER {
-        out[i] = format::wide(id[i]);
-        i += 1;
-    }
-}
 
 fn put_totals(out: &mut [u64], a: u64, b: u64, c: u64, d: u64, e: u64, f: u64, g: u64)
     requires { ⌜ headerNumbers ≤ length (now out) ⌝ }
     ensures { λ _. ⌜ now (out .exit) ≡ sets (now (out .entry)) 12 (a ∷ b ∷ c ∷ d ∷ e ∷ f ∷ g ∷ []) ⌝ }
 {
-    out[12] = a;
-    out[13] = b;
-    out[14] = c;
-    out[15] = d;
-    out[16] = e;
-    out[17] = f;
-    out[18] = g;
+    out[HEAD_TIME] = a;
+    out[HEAD_KWH] = b;
+    out[HEAD_CURRENT] = c;
+    out[HEAD_PREVIOUS] = d;
+    out[HEAD_CUMULATIVE] = e;
+    out[HEAD_RESET] = f;
+    out[HEAD_RESETS] = g;
 }
 
 fn put_rates(out: &mut [u64], rates: [KilowattHours; 8])
@@ -42,9 +38,9 @@ fn put_rates(out: &mut [u64], rates: [KilowattHours; 8])
     ensures { λ _. ⌜ now (out .exit) ≡ sets (now (out .entry)) 19 (table 8 (rateOf rates)) ⌝ }
 {
     let mut i: usize = 0;
-    while i < RATES {
+    while i < block::RATES {
         let k = rates[i];
-        out[19 + i] = k.0;
+        out[HEAD_RATES + i] = k.0;
         i += 1;
     }
 }
@@ -53,7 +49,7 @@ fn put_days(out: &mut [u64], days: u64)
     requires { ⌜ headerNumbers ≤ length (now out) ⌝ }
     ensures { λ _. ⌜ now (out .exit) ≡ sets (now (out .entry)) 27 (days ∷ []) ⌝ }
 {
-    out[27] = days;
+    out[HEAD_DAYS] = days;
 }
 
 pub fn put_header(out: &mut [u64], h: Header, days: u32)
@@ -62,7 +58,7 @@ pub fn put_header(out: &mut [u64], h: Header, days: u32)
 {
     let id = h.identifier;
     let rates = h.rates;
-    put_letters(out, id);
+    format::put_letters(out, id);
     put_totals(
         out,
         h.time,
@@ -92,7 +88,7 @@ pub fn copy_identifier(out: &mut [u8], l: &[u8])
     ensures { λ _. ⌜ now (out .exit) ≡ sets (now (out .entry)) 0 (table 12 (letterOf (now (l .entry)))) ⌝ }
 {
     let mut i: usize = 0;
-    while i < IDENTIFIER {
+    while i < format::IDENTIFIER {
         out[i] = l[i];
         i += 1;
     }

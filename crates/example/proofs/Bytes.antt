@@ -2,7 +2,7 @@
 -- Assumes nothing.
 use mathlib.Core.Path.{_≡_, refl}
 use mathlib.Core.List.{map}
-use Rattle.recorder.specs.Cases.{Case}
+use Rattle.cases.specs.Cases.{Case}
 use Rattle.example.proofs.Opens.{opens}
 use Rattle.example.proofs.Rows.{Met, both}
 use Rattle.example.specs.Bytes.{sent, ofOne, ofTwo, most, bytes}

@@ -2,7 +2,7 @@
 -- Assumes nothing.
 use mathlib.Core.Path.{_≡_, sym, _∙_}
 use mathlib.Core.List.{List, _++_, map, map-append}
-use Rattle.recorder.specs.Cases.{Case}
+use Rattle.cases.specs.Cases.{Case}
 
 pub record Met (cs : List Case) : Type 0 where
   pub is : map (λ (c : Case). c .given) cs ≡ map (λ (c : Case). c .due) cs

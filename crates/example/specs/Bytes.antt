@@ -12,7 +12,7 @@ use Rattle.store.specs.Store.{store}
 use Rattle.block.specs.Layout.{mostDays}
 use Rattle.ledger.specs.Judged.{longestWindow}
 use Rattle.recorder.specs.Recorder.{Mem}
-use Rattle.recorder.specs.Cases.{Case, ident, full}
+use Rattle.cases.specs.Cases.{Case, ident, full}
 use Rattle.readout.specs.Read.{readOf}
 use Rattle.example.specs.Orders.{told, parses}
 

@@ -17,7 +17,7 @@ use Rattle.registers.specs.declared.Demand.{Demand}
 use Rattle.recorder.specs.declared.Event.the-variants.{Off}
 use Rattle.recorder.specs.Recorder.{Mem, with, withDemand}
 use Rattle.recorder.specs.SetUp.{blank}
-use Rattle.recorder.specs.Cases.{Case, ident, small, full, short, meter, next, outOfRange, beside}
+use Rattle.cases.specs.Cases.{Case, ident, small, full, short, meter, next, outOfRange, beside}
 use Rattle.readout.specs.Read.{headerSent, readOf}
 
 -- the numbers of answers, each with what it carries

@@ -92,3 +92,36 @@ none-stored k p g = refl
 pub row-next : (l k : List ℕ) (at m v : ℕ) (g : ℕ → ℕ) → k ≡ sets l at (table m g) → v ≡ g m → set k (at + m) v ≡ sets l at (table (m + 1) g)
 row-next l k at m v g e f =
     row-on l k (set k (at + m) v) at m 1 g (λ q. v) e (one-stored k (at + m) v) (λ q h. let y : m + q ≡ m = omega arith in rw y (sym f))
+
+-- ---- a row written one number after the other from index `at` on, the j-th of them g j, n in all
+
+pub record Row (g : ℕ → ℕ) (n : ℕ) (out₀ : List ℕ) (at : ℕ) (out : List ℕ) (j : ℕ) : Type 0 where
+  pub at-most : j ≤ n
+  pub long : at + n ≤ length out
+  pub same : length out ≡ length out₀
+  pub is : out ≡ sets out₀ at (table j g)
+
+module _ (g : ℕ → ℕ) (n : ℕ) (out₀ : List ℕ) (at : ℕ) where
+  pub row-none : at + n ≤ length out₀ → Row g n out₀ at out₀ 0
+  row-none h = record { at-most = omega arith; long = h; same = refl; is = none-stored out₀ at g }
+
+  module _ (out : List ℕ) (j : ℕ) (r : Row g n out₀ at out j) where
+    pub row-more : (v : ℕ) → j < n → v ≡ g j → Row g n out₀ at (set out (at + j) v) (j + 1)
+    row-more v h e = record {
+      at-most = omega arith;
+      long = rw length-set (r .long);
+      same = rw length-set (r .same);
+      is = row-next out₀ out at j v g (r .is) e;
+    }
+
+    pub row-all : n ≤ j → out ≡ sets out₀ at (table n g)
+    row-all h = let z : j ≡ n = omega (arith, r .at-most) in rw z at (r .is)
+
+-- from index 0 on
+pub row-first : (g : ℕ → ℕ) (n : ℕ) (out₀ out : List ℕ) (j v : ℕ) → Row g n out₀ 0 out j → j < n → v ≡ g j → Row g n out₀ 0 (set out j v) (j + 1)
+row-first g n out₀ out j v r h e = let z : 0 + j ≡ j = omega arith in rw z at (row-more g n out₀ 0 out j r v h e)
+
+pub row-side : (l k n xs ys : List ℕ) (a : ℕ) → k ≡ sets l 0 xs → n ≡ sets k a ys → length xs ≡ a → n ≡ sets l 0 (xs ++ ys)
+row-side l k n xs ys a e f h =
+    let z : a ≡ 0 + length xs = omega arith in
+    f ∙ rw (e, z) (sets-append l 0 xs ys)

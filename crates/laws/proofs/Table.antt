@@ -67,3 +67,26 @@ table-set n f g i v l at other =
     by-dec (ℕ-discrete k i)
     (λ e. rw e (getD-set-same (table n f) i v 0 (omega (arith, length-table n f)) ∙ sym at))
     (λ q. getD-set-other (table n f) i k v 0 q ∙ table-at n f k 0 lk ∙ sym (other k q)))
+
+-- ---- a list filled one element after the other
+
+pub record Filled {A : Type 0} (z : A) (n : ℕ) (f : ℕ → A) (l : List A) (i : ℕ) : Type 0 where
+  pub at-most : i ≤ n
+  pub long : length l ≡ n
+  pub so-far : (q : ℕ) → q < i → getD l q z ≡ f q
+
+module _ {A : Type 0} (z : A) (n : ℕ) (f : ℕ → A) where
+  pub filled-on : (l : List A) (i : ℕ) (v : A) → Filled z n f l i → i < n → v ≡ f i → Filled z n f (set l i v) (i + 1)
+  filled-on l i v g h e =
+      record {
+        at-most = omega arith;
+        long = length-set l i v ∙ g .long;
+        so-far = λ q k. by-dec (ℕ-discrete q i)
+            (λ p. rw p (getD-set-same l i v z (omega (arith, g .long)) ∙ e))
+            (λ p. getD-set-other l i q v z p ∙ g .so-far q (omega arith));
+      }
+
+  pub filled-done : (l : List A) (i : ℕ) → Filled z n f l i → n ≤ i → l ≡ table n f
+  filled-done l i g h =
+      ext-getD z l (table n f) (g .long ∙ sym (length-table n f))
+      (λ q k. g .so-far q (omega (arith, g .long)) ∙ sym (table-at n f q z (omega (arith, g .long))))

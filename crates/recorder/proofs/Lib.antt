@@ -5,4 +5,3 @@ pub mod Boundaries
 pub mod Effects
 pub mod Setting
 pub mod Kept
-pub mod Starred

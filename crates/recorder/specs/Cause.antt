@@ -1,7 +1,8 @@
 -- What an event is refused for, of a recorder that is good (docs/RULES.md, "Answer numbers"): 1, 6, 2 and 3, each by the event and what the recorder has.
-use Prim.Native.Nat.{ℕ}
+use Prim.Native.Nat.{ℕ, _-_}
 use mathlib.Core.Bool.{Bool, true, false, not, cond, _&&_}
 use lib.Dec.{ltb, leb}
+use Rattle.quantity.specs.Units.{valueRound}
 use Rattle.registers.specs.Energy.{rateOk}
 use Rattle.calendar.specs.Clock.{timesInAll}
 use Rattle.recorder.specs.Recorder.{Event, Count, Clock, Off, On, Access, Meter, Reset, Rate, Reverse}
@@ -50,7 +51,7 @@ badTime now Reverse = false
 
 -- 3: the running half-hour's units would pass 9,999
 abbrev pub mostUnits : ℕ
-mostUnits = 9999
+mostUnits = valueRound - 1
 
 abbrev pub tooMuch : (ℕ → ℕ) → Event → Bool
 tooMuch units (Count c) = ltb mostUnits (units c)

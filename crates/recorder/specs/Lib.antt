@@ -1,4 +1,4 @@
--- The recorder beside its store: ranges, boundaries, what each event does, what it is refused for, set-up, and the cases reckoned by hand.
+-- The recorder beside its store: ranges, boundaries, what each event does, what it is refused for, set-up.
 pub mod Recorder
 pub mod Range
 pub mod Boundary
@@ -8,5 +8,4 @@ pub mod Answer
 pub mod Step
 pub mod SetUp
 pub mod Stored
-pub mod Cases
 pub mod Needs

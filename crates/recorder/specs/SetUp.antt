@@ -5,7 +5,7 @@ use mathlib.Core.Bool.{Bool, true, false, not, cond}
 use mathlib.Core.List.{List, [], _∷_}
 use lib.Dec.{ltb, leb, eqb}
 use lib.ListN.{length, replicate}
-use Rattle.format.specs.Identifier.{identOk}
+use Rattle.format.specs.Identifier.{identLength, identOk}
 use Rattle.laws.specs.Checks.{Check, check, firstFailing}
 use Rattle.laws.specs.Tests.{allTrue}
 use Rattle.quantity.specs.declared.WattHours.{WattHours}
@@ -55,7 +55,7 @@ fresh s =
 
 -- no class, and zeros
 unfoldable pub blank : Recorder
-blank = started (record { identifier = replicate 12 0; class = Blank; weight = noEnergy }) (record { time = 0; on = false; days = 0 }) (energyFrom noEnergy 0 0)
+blank = started (record { identifier = replicate identLength 0; class = Blank; weight = noEnergy }) (record { time = 0; on = false; days = 0 }) (energyFrom noEnergy 0 0)
 
 abbrev pub storeBegun : SetUp → Store
 storeBegun s =

@@ -34,12 +34,12 @@ impl SetUp {
     {
         let class = self.class;
         if !self.in_range() {
-            return 6;
+            return answers::RANGE;
         }
         if !class.fits(values, starts, marks) {
-            return 4;
+            return answers::LENGTH;
         }
-        0
+        answers::DONE
     }
 
     fn fresh(self) -> Recorder
@@ -112,7 +112,7 @@ impl Recorder {
             counter: counter,
         };
         let answer = given.answer(values.len(), starts.len(), marks.len());
-        if answer != 0 {
+        if answer != answers::DONE {
             return Stepped {
                 recorder: Recorder::blank(),
                 answer: answer,
@@ -122,7 +122,7 @@ impl Recorder {
         given.begin(values, starts, marks);
         Stepped {
             recorder: given.fresh(),
-            answer: 0,
+            answer: answers::DONE,
             carried: 0,
         }
     }

@@ -18,7 +18,7 @@ use crate::Stepped;
 use crate::registers_ok;
 use registers::Present;
 
-const MOST_UNITS: u64 = 9999;
+const MOST_UNITS: u64 = quantity::VALUE_ROUND - 1;
 
 const POWER_LOST: u64 = 0x80;
 
@@ -49,7 +49,7 @@ fn first_of(fails: bool, number: u32, next: u32) -> u32
 fn power_answer(wrong: bool) -> u32
     ensures { λ r. ⌜ r ≡ cond wrong 1 0 ⌝ }
 {
-    first_of(wrong, 1, 0)
+    first_of(wrong, answers::POWER, answers::DONE)
 }
 
 fn time_answer(wrong: bool, now: u64, t: u64) -> u32
@@ -57,15 +57,23 @@ fn time_answer(wrong: bool, now: u64, t: u64) -> u32
 {
     first_of(
         wrong,
-        1,
-        first_of(!((now <= t) & (t < calendar::TIMES_IN_ALL)), 2, 0),
+        answers::POWER,
+        first_of(
+            !((now <= t) & (t < calendar::TIMES_IN_ALL)),
+            answers::TIME,
+            answers::DONE,
+        ),
     )
 }
 
 fn rate_answer(wrong: bool, n: u32) -> u32
     ensures { λ r. ⌜ r ≡ cond wrong 1 (cond (not (rateOk n)) 6 0) ⌝ }
 {
-    first_of(wrong, 1, first_of(!registers::rate_ok(n), 6, 0))
+    first_of(
+        wrong,
+        answers::POWER,
+        first_of(!registers::rate_ok(n), answers::RANGE, answers::DONE),
+    )
 }
 
 // The time that it is, if an event tells it.
@@ -104,7 +112,11 @@ impl Recorder {
         let running = self.running;
         let energy = self.energy;
         let units = energy.units_with(identity.weight, running.base, c);
-        first_of(!self.clock.on, 1, first_of(MOST_UNITS < units.0, 3, 0))
+        first_of(
+            !self.clock.on,
+            answers::POWER,
+            first_of(MOST_UNITS < units.0, answers::UNITS, answers::DONE),
+        )
     }
 
     // The answer to an event, of a recorder in range with a store of its lengths.
@@ -135,15 +147,15 @@ impl Recorder {
         let class = identity.class;
         let cap = class.days();
         if cap == 0 {
-            return 5;
+            return answers::DAMAGED;
         }
         if !class.fits(values, starts, marks) {
-            return 4;
+            return answers::LENGTH;
         }
         let good = identity.in_range()
             & registers_ok(cap, self.clock, self.energy, self.demand, self.running);
         if !good {
-            return 5;
+            return answers::DAMAGED;
         }
         self.event_answer(event)
     }
@@ -371,7 +383,7 @@ impl Recorder {
             ≡ step (mem self (now (values .entry)) (now (starts .entry)) (now (marks .entry))) event ⌝ }
     {
         let answer = self.answer(event, values.len(), starts.len(), marks.len());
-        if answer != 0 {
+        if answer != answers::DONE {
             return Stepped {
                 recorder: self,
                 answer: answer,
@@ -381,7 +393,7 @@ impl Recorder {
         let next = self.applied(event, values, starts, marks);
         Stepped {
             recorder: next,
-            answer: 0,
+            answer: answers::DONE,
             carried: 0,
         }
     }

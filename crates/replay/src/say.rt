@@ -3,8 +3,10 @@ ghost use Prim.Native.Nat.{_<_, _≤_};
 use crate::memory;
 use libc::STDOUT_FILENO;
 
-// Bytes in hexadecimal are printed so many at a time.
-const PART: usize = 2048;
+// A text has room for the longest listing. Bytes in hexadecimal are printed in parts that fill it.
+const TEXT: usize = lines::LONGEST_TEXT;
+
+const PART: usize = TEXT / 2;
 
 pub fn text(bytes: &[u8]) {
     io::write_all(STDOUT_FILENO, bytes);
@@ -20,21 +22,30 @@ pub fn then(x: u64) {
     number(x);
 }
 
-pub fn end() {
-    text(b"\n");
+// Numbers, each behind a space.
+pub fn then_all(row: &[u64]) {
+    let mut i: usize = 0;
+    while i < row.len() {
+        then(row[i]);
+        i += 1;
+    }
 }
 
-pub fn answer(number: u32, carried: u32) {
+pub fn end() -> bool {
+    text(b"\n");
+    true
+}
+
+pub fn answer(number: u32, carried: u32) -> bool {
     self::number(number as u64);
     then(carried as u64);
-    end();
+    end()
 }
 
 pub fn done(carried: u64) -> bool {
-    number(0);
+    number(answers::DONE as u64);
     then(carried);
-    end();
-    true
+    end()
 }
 
 // The line with this number can't be understood.
@@ -59,16 +70,16 @@ fn first(out: &[u8], k: usize) -> bool {
     true
 }
 
-fn show(out: &[u8; 4096], k: usize) -> bool {
+fn show(out: &[u8; TEXT], k: usize) -> bool {
     first(out, k)
 }
 
-fn spell(bytes: &[u8], out: &mut [u8; 4096]) -> usize {
+fn spell(bytes: &[u8], out: &mut [u8; TEXT]) -> usize {
     script::hex(bytes, out)
 }
 
 fn hex_part(bytes: &[u8]) -> bool {
-    let mut out = [0u8; 4096];
+    let mut out = [0u8; TEXT];
     let k = spell(bytes, &mut out);
     show(&out, k)
 }
@@ -92,12 +103,12 @@ pub fn hex(bytes: &[u8]) -> bool {
     true
 }
 
-fn list(block: &[u8], out: &mut [u8; 4096]) -> usize {
+fn list(block: &[u8], out: &mut [u8; TEXT]) -> usize {
     lines::listed(block, out)
 }
 
 pub fn listing(block: &[u8]) -> bool {
-    let mut out = [0u8; 4096];
+    let mut out = [0u8; TEXT];
     let k = list(block, &mut out);
     show(&out, k)
 }

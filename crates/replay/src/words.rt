@@ -43,11 +43,6 @@ pub fn time(line: &[u8], k: usize, l: usize) -> u64 {
     or_none(script::time(line, k, l))
 }
 
-// A number that is counted from 1, counted from 0.
-pub fn less_one(i: u64) -> u64 {
-    if i == 0 { NONE } else { i - 1 }
-}
-
 // n - k, or 0.
 pub fn less(n: usize, k: usize) -> usize {
     if n < k { 0 } else { n - k }

@@ -17,7 +17,7 @@ use Rattle.recorder.specs.Step.{Done, done, step}
 use Rattle.recorder.specs.SetUp.{setUp}
 use Rattle.readout.specs.Read.{ReadDone, readDone, readBack}
 use Rattle.timing.specs.declared.Kind.{Kind}
-use Rattle.timing.specs.Timed.{meter, begun, nth, coming, played, totalOf, timeOf, Reads, reads, reading, readsOf}
+use Rattle.timing.specs.Timed.{allDays, meter, begun, nth, coming, played, totalOf, timeOf, Reads, reads, reading, readsOf}
 
 -- ---- one call
 
@@ -51,7 +51,7 @@ coming-on kind n x₀ i x a d v s m g h p e =
     going-on (coming kind) n x₀ i x (mem (d .recorder) v s m) g h (ap (λ (y : Done). y .after) (e ∙ ap (step x) p))
 
 module _ (n : ℕ) (x : Mem) (out₀ out o : List ℕ) (i bytes : ℕ) (h : Stepped) where
-  pub read-on : Going (reading x) n (reads out₀ 0) i (reads out bytes) → i < n → readDone h o ≡ readBack 450 x out
+  pub read-on : Going (reading x) n (reads out₀ 0) i (reads out bytes) → i < n → readDone h o ≡ readBack allDays x out
       → Going (reading x) n (reads out₀ 0) (i + 1) (reads o (bytes + h .carried))
   unfolding reading
   read-on g k e = going-on (reading x) n (reads out₀ 0) i (reads out bytes) (reads o (bytes + h .carried)) g k (ap (λ (d : ReadDone). reads (d .out) (bytes + d .handed .carried)) e)

@@ -1,9 +1,11 @@
 -- What the loops that are timed do: set-up with fixed values, then events one after another, each handing its recorder and store to the next.
-use Prim.Native.Nat.{ℕ, _+_, _*_}
+use Prim.Native.Nat.{ℕ, _+_, _-_, _*_}
 use mathlib.Core.List.{List, [], _∷_}
 use Rattle.laws.specs.Each.{forTo}
 use Rattle.quantity.specs.Units.{wattHours}
+use Rattle.calendar.specs.Clock.{secondsOfDay}
 use Rattle.store.specs.declared.Class.the-variants.{D}
+use Rattle.store.specs.Class.{daysOf}
 use Rattle.store.specs.Store.{Store}
 use Rattle.recorder.specs.declared.SetUp.{SetUp}
 use Rattle.recorder.specs.declared.Event.{Event}
@@ -48,11 +50,17 @@ totalOf x = totalled (x .recorder .energy .total .0) (x .store)
 abbrev pub timeOf : Mem → Totalled
 timeOf x = totalled (x .recorder .clock .time) (x .store)
 
--- a full store: 449 days and 01:10 later
-abbrev pub stored : Store → Mem
-stored s = played (Clocks 38797800) 1 s
+-- a full store: 01:10 of the last day that it has room for
+abbrev pub allDays : ℕ
+allDays = daysOf D
 
--- reads of 450 days: the output, and the bytes carried, added up
+abbrev pub full : ℕ
+full = (allDays - 1) * secondsOfDay + 4200
+
+abbrev pub stored : Store → Mem
+stored s = played (Clocks full) 1 s
+
+-- reads of all days: the output, and the bytes carried, added up
 pub record Reads : Type 0 where
   pub out : List ℕ
   pub bytes : ℕ
@@ -61,7 +69,7 @@ abbrev pub reads : List ℕ → ℕ → Reads
 reads out bytes = record { out = out; bytes = bytes }
 
 unfoldable pub reading : Mem → ℕ → Reads → Reads
-reading x i y = let d = readBack 450 x (y .out) in reads (d .out) (y .bytes + d .handed .carried)
+reading x i y = let d = readBack allDays x (y .out) in reads (d .out) (y .bytes + d .handed .carried)
 
 unfoldable pub readsOf : ℕ → Mem → List ℕ → Reads
 readsOf n x out = forTo (reading x) 0 n (reads out 0)

@@ -11,10 +11,10 @@ use recorder::Event;
 use recorder::Recorder;
 use store::Class;
 
-// 449 days and 01:10, so that every room of the store has a day.
-const FULL: u32 = 38797800;
+const ALL_DAYS: u32 = Class::DAYS_D;
 
-const ALL_DAYS: u32 = 450;
+// To 01:10 of the last of them, so that every room of the store has a day.
+const FULL: u32 = (ALL_DAYS - 1) * calendar::SECONDS_OF_DAY as u32 + 4200;
 
 // Which events come, one after another.
 pub enum Kind {

@@ -1,7 +1,7 @@
 use Prim.Native.Nat.{_-_}
 use Rattle.ledger.specs.Rooms.{dayAt}
 use Rattle.desk.specs.Given.{halfNumber}
-use Rattle.desk.proofs.Rows.{Row, row-none, row-first, row-all}
+use Rattle.laws.proofs.Rows.{Row, row-none, row-first, row-all}
 use borrow.Author.Needs.{needs}
 use Rattle.desk.proofs.put_halves.Statement.{statement}
 use Rattle.desk.proofs.put_halves.Tie as tie

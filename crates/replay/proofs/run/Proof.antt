@@ -1,3 +1,4 @@
+use mathlib.Core.Path.{_≡_}
 use Prim.Native.Nat.{_-_, _≤_}
 use lib.ListN.{length}
 use borrow.Author.Needs.{needs}
@@ -5,13 +6,10 @@ use Rattle.replay.proofs.run.Statement.{statement}
 use Rattle.replay.proofs.run.Tie as tie
 
 abbrev Inv-loop : tie.InvT-loop
-Inv-loop text n words₀ values₀ starts₀ blocks₀ ledger₀ script at₀ from₀ words values starts blocks ledger at from = at ≤ from
+Inv-loop script row₀ blocks₀ ledger₀ at₀ from₀ row blocks ledger at from = (at ≤ from) × (length row ≡ length row₀) × (length blocks ≡ length blocks₀) × (length ledger ≡ length ledger₀)
 
 abbrev μ-loop : tie.MeasureT-loop
-μ-loop text n words₀ values₀ starts₀ blocks₀ ledger₀ script at₀ from₀ words values starts blocks ledger at from = length script - from
-
-part-requires : tie.Need-part-requires Inv-loop μ-loop
-part-requires c κs = search needs
+μ-loop script row₀ blocks₀ ledger₀ at₀ from₀ row blocks ledger at from = length script - from
 
 loop-holds : tie.Need-loop-holds Inv-loop μ-loop
 loop-holds c = search needs
@@ -52,6 +50,15 @@ loop-less-2 c = search needs
 loop-again-2 : tie.Need-loop-again-2 Inv-loop μ-loop
 loop-again-2 c = search needs
 
+same-length : tie.Need-same-length Inv-loop μ-loop
+same-length c = search needs
+
+same-length-2 : tie.Need-same-length-2 Inv-loop μ-loop
+same-length-2 c = search needs
+
+same-length-3 : tie.Need-same-length-3 Inv-loop μ-loop
+same-length-3 c = search needs
+
 returns : tie.Need-returns Inv-loop μ-loop
 returns c = search needs
 
@@ -61,7 +68,6 @@ run-spec =
     (tie.spec
     Inv-loop
     μ-loop
-    part-requires
     loop-holds
     line-end-requires
     sub-line
@@ -75,4 +81,7 @@ run-spec =
     loop-again
     loop-less-2
     loop-again-2
+    same-length
+    same-length-2
+    same-length-3
     returns)

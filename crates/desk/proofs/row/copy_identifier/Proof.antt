@@ -1,7 +1,7 @@
 use Prim.Native.Nat.{_-_}
-use Rattle.desk.specs.Given.{letterOf}
-use Rattle.desk.proofs.Rows.{Row, row-none, row-first, row-all}
-use Rattle.desk.proofs.Blocks.{letter-is}
+use Rattle.format.specs.Identifier.{letterOf}
+use Rattle.laws.proofs.Rows.{Row, row-none, row-first, row-all}
+use Rattle.format.proofs.Writing.{letter-is}
 use borrow.Author.Needs.{needs}
 use Rattle.desk.proofs.row.copy_identifier.Statement.{statement}
 use Rattle.desk.proofs.row.copy_identifier.Tie as tie

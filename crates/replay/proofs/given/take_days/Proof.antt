@@ -1,13 +1,15 @@
+use mathlib.Core.Path.{_≡_}
+use lib.ListN.{length}
 use Prim.Native.Nat.{_-_, _*_, _≤_}
 use borrow.Author.Needs.{needs}
 use Rattle.replay.proofs.given.take_days.Statement.{statement}
 use Rattle.replay.proofs.given.take_days.Tie as tie
 
 abbrev Inv-loop : tie.InvT-loop
-Inv-loop block n words₀ values₀ starts₀ i₀ words values starts i = i ≤ 52 * n
+Inv-loop block n row₀ i₀ row i = (i ≤ 52 * n) × (length row ≡ length row₀)
 
 abbrev μ-loop : tie.MeasureT-loop
-μ-loop block n words₀ values₀ starts₀ i₀ words values starts i = 52 * n - i
+μ-loop block n row₀ i₀ row i = 52 * n - i
 
 loop-holds : tie.Need-loop-holds Inv-loop μ-loop
 loop-holds c = search needs
@@ -15,14 +17,8 @@ loop-holds c = search needs
 mul-loop : tie.Need-mul-loop Inv-loop μ-loop
 mul-loop c = search needs
 
-number-requires : tie.Need-number-requires Inv-loop μ-loop
-number-requires c κs = search needs
-
-of-day-requires : tie.Need-of-day-requires Inv-loop μ-loop
-of-day-requires c κs = search needs
-
-put-requires : tie.Need-put-requires Inv-loop μ-loop
-put-requires c κs = search needs
+take-number-requires : tie.Need-take-number-requires Inv-loop μ-loop
+take-number-requires c κs = search needs
 
 add-i : tie.Need-add-i Inv-loop μ-loop
 add-i c = search needs
@@ -32,6 +28,9 @@ loop-less c = search needs
 
 loop-again : tie.Need-loop-again Inv-loop μ-loop
 loop-again c = search needs
+
+same-length : tie.Need-same-length Inv-loop μ-loop
+same-length c = search needs
 
 returns : tie.Need-returns Inv-loop μ-loop
 returns c = search needs
@@ -44,10 +43,9 @@ take-days-spec =
     μ-loop
     loop-holds
     mul-loop
-    number-requires
-    of-day-requires
-    put-requires
+    take-number-requires
     add-i
     loop-less
     loop-again
+    same-length
     returns)

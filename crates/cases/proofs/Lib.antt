@@ -1,0 +1,2 @@
+-- Starred: the cases, computed.
+pub mod Starred

@@ -1,0 +1,2 @@
+-- Cases: of the recorder, reckoned by hand.
+pub mod Cases
