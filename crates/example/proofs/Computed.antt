@@ -5,7 +5,7 @@ use mathlib.Core.List.{[], _∷_, map}
 use lib.ListN.{length}
 use Rattle.assurance.specs.Delivered.{answersAll}
 use Rattle.assurance.specs.Run.{blocksIn}
-use Rattle.example.proofs.Opens.{opens as opens-under}
+use Rattle.orders.proofs.Opens.{opens as opens-under}
 use Rattle.recorder.specs.SetUp.{setUp}
 use Rattle.ledger.specs.Open.{openOf}
 use Rattle.rooms.specs.View.{viewOf}

@@ -1,4 +1,2 @@
--- Example: one life worked through. Orders: cases of the order of answers. Bytes: cases of a block's bytes.
+-- Example: one life worked through.
 pub mod Example
-pub mod Orders
-pub mod Bytes

@@ -1,266 +1,180 @@
-// The recorder and its store, lent as the script says.
-use crate::blocks;
-use crate::command;
-use crate::kept;
-use crate::memory;
-use crate::names;
-use crate::say;
-use crate::words;
+// The recorder and its store, lent as the script says: how they are lent, a set-up, the events, and what is changed by hand.
+use commands::places;
+use memory::Lent;
+use memory::Marks;
+use memory::Row;
+use memory::Starts;
+use memory::Values;
 use recorder::Event;
-use recorder::Recorder;
-use recorder::Stepped;
+use script::Said;
+use script::names;
 
-// ---- the lengths that the store is lent with
+// ---- how the store is lent
 
-fn lend_so(values: u64, starts: u64, marks: u64, row: &mut [u64]) {
-    kept::put(row, kept::LENT_VALUES, values);
-    kept::put(row, kept::LENT_STARTS, starts);
-    kept::put(row, kept::LENT_MARKS, marks);
+// `lend`: as the recorder's class has it.
+fn lend_again(row: &mut Row) -> u64 {
+    let class = memory::number(row, rows::CLASS);
+    memory::put(row, memory::LENT_CLASS, class);
+    memory::put(row, memory::STANDS, 0)
 }
 
-// Those of a class.
-fn lend_for(class: u64, row: &mut [u64]) {
-    let class = rows::class_numbered(class);
-    lend_so(
-        class.values_len() as u64,
-        class.starts_len() as u64,
-        class.marks_len() as u64,
-        row,
-    );
+// `lend V S M`.
+fn lend_these(values: u64, starts: u64, marks: u64, row: &mut Row) -> u64 {
+    memory::put(row, memory::LENT_VALUES, values);
+    memory::put(row, memory::LENT_STARTS, starts);
+    memory::put(row, memory::LENT_MARKS, marks);
+    memory::put(row, memory::STANDS, 1)
 }
 
-fn lend_these(values: u64, starts: u64, marks: u64, row: &mut [u64]) -> bool {
-    if (kept::VALUES as u64) < values {
-        return false;
+fn lend(said: Said, row: &mut Row) -> u64 {
+    let n = said.n;
+    match n {
+        0 => lend_again(row),
+        3 => lend_these(said.a, said.b, said.c, row),
+        _ => script::NONE,
     }
-    if ((kept::STORE_DAYS as u64) < starts) | ((kept::MARKS as u64) < marks) {
-        return false;
-    }
-    lend_so(values, starts, marks, row);
-    say::changed(kept::put(row, kept::STANDS, 1))
-}
-
-// `lend` and `lend V S M`.
-pub fn lend(line: &[u8], row: &mut [u64]) -> bool {
-    if script::arguments(line) != 0 {
-        return lend_these(
-            words::number(line, 1),
-            words::number(line, 2),
-            words::number(line, 3),
-            row,
-        );
-    }
-    lend_for(kept::number(row, kept::RECORDER + rows::CLASS), row);
-    say::changed(kept::put(row, kept::STANDS, 0))
-}
-
-// Whether a place lies in the store as it is lent, or before the store.
-pub fn is_lent(at: usize, row: &[u64]) -> bool {
-    if kept::MARK <= at {
-        return at - kept::MARK < kept::length(row, kept::LENT_MARKS);
-    }
-    if kept::START <= at {
-        return at - kept::START < kept::length(row, kept::LENT_STARTS);
-    }
-    if kept::VALUE <= at {
-        return at - kept::VALUE < kept::length(row, kept::LENT_VALUES);
-    }
-    true
-}
-
-// ---- set-up
-
-// Whether the words of a set-up are right: the last one is the counter's value, the one before it the total.
-fn can_start(line: &[u8], n: usize) -> bool {
-    let id = script::word(line, 1);
-    (id.len() == format::IDENTIFIER)
-        & (words::class(script::word(line, 2)) != words::NONE)
-        & (words::small(line, 3) != words::NONE)
-        & (words::time(line, 4, words::less(n, 2)) != words::NONE)
-        & (words::number(line, words::less(n, 1)) != words::NONE)
-        & (words::small(line, n) != words::NONE)
-}
-
-// The numbers of a set-up, n words long.
-fn keep_start(line: &[u8], n: usize, row: &mut [u64]) {
-    kept::put(row, kept::RECORDER + rows::WEIGHT, words::number(line, 3));
-    let time = words::time(line, 4, words::less(n, 2));
-    kept::put(row, kept::RECORDER + rows::TIME, time);
-    let total = words::number(line, words::less(n, 1));
-    kept::put(row, kept::RECORDER + rows::TOTAL, total);
-    kept::put(row, kept::RECORDER + rows::LAST, words::number(line, n));
-}
-
-fn keep_letters(id: &[u8], row: &mut [u64]) {
-    memory::from_bytes(
-        memory::part64_mut(row, kept::RECORDER + rows::LETTER, format::IDENTIFIER),
-        id,
-    );
-}
-
-// What a recorder is set up with lies in its row. A set-up lends the lengths of its class, unless a `lend V S M` stands.
-fn keep_class(class: u64, row: &mut [u64]) -> bool {
-    if kept::number(row, kept::STANDS) == 1 {
-        return kept::put(row, kept::RECORDER + rows::CLASS, class);
-    }
-    lend_for(class, row);
-    kept::put(row, kept::RECORDER + rows::CLASS, class)
-}
-
-pub fn set_up(line: &[u8], row: &mut [u64]) -> bool {
-    let n = script::arguments(line);
-    if !can_start(line, n) {
-        return false;
-    }
-    keep_class(words::class(script::word(line, 2)), row);
-    keep_letters(script::word(line, 1), row);
-    keep_start(line, n, row);
-    act(names::SETUP, 0, row)
-}
-
-fn set_up_with(r: Recorder, values: &mut [u16], starts: &mut [u32], marks: &mut [u64]) -> Stepped {
-    let identity = r.identity;
-    let id = identity.identifier;
-    let class = identity.class;
-    Recorder::set_up(
-        id,
-        class,
-        identity.weight,
-        r.clock.time,
-        r.energy.total,
-        r.energy.last,
-        values,
-        starts,
-        marks,
-    )
-}
-
-// ---- events
-
-// What an event of a kind carries.
-fn carried(kind: u64, line: &[u8]) -> u64 {
-    match kind {
-        command::TIMED => words::time(line, 1, script::arguments(line)),
-        command::NUMBERED => words::small(line, 1),
-        _ => 0,
-    }
-}
-
-fn event(name: u64, n: u64) -> Event {
-    match name {
-        names::COUNT => Event::Count(kept::narrow(n)),
-        names::CLOCK => Event::Clock(n),
-        names::OFF => Event::Off,
-        names::ON => Event::On(n),
-        names::ACCESS => Event::Access,
-        names::METER => Event::Meter(kept::narrow(n)),
-        names::RESET => Event::Reset,
-        names::RATE => Event::Rate(kept::narrow(n)),
-        _ => Event::Reverse,
-    }
-}
-
-pub fn happened(kind: u64, name: u64, line: &[u8], row: &mut [u64]) -> bool {
-    let n = carried(kind, line);
-    if n == words::NONE {
-        return false;
-    }
-    act(name, n, row)
 }
 
 // ---- a set-up or an event, with the store as it is lent
 
-fn acted(
-    name: u64,
-    n: u64,
-    r: Recorder,
+fn keep_letters(id: &[u8], row: &mut [u64]) {
+    parts::from8(memory::part64(row, rows::LETTER, format::IDENTIFIER), id);
+}
+
+// What a recorder is set up with lies in its row, and the store is lent as its class has it, unless a `lend V S M` stands.
+fn keep_start(said: Said, id: &[u8], row: &mut Row) -> u64 {
+    keep_letters(id, row);
+    memory::put(row, memory::LENT_CLASS, said.a);
+    memory::put(row, rows::CLASS, said.a);
+    memory::put(row, rows::WEIGHT, said.b);
+    memory::put(row, rows::TIME, said.c);
+    memory::put(row, rows::TOTAL, said.d);
+    memory::put(row, rows::LAST, said.e)
+}
+
+fn set_up(
+    lent: Lent,
+    row: &mut [u64],
     values: &mut [u16],
     starts: &mut [u32],
     marks: &mut [u64],
-) -> Stepped {
-    if name == names::SETUP {
-        return set_up_with(r, values, starts, marks);
-    }
-    r.step(event(name, n), values, starts, marks)
-}
-
-fn act_lent(name: u64, n: u64, row: &mut [u64], values: &mut [u16], starts: &mut [u32]) -> Stepped {
-    let v = kept::length(row, kept::LENT_VALUES);
-    let s = kept::length(row, kept::LENT_STARTS);
-    let m = kept::length(row, kept::LENT_MARKS);
-    acted(
-        name,
-        n,
-        kept::recorder(row),
-        memory::first16(values, v),
-        memory::first32(starts, s),
-        memory::part64_mut(row, kept::MARK, m),
+) -> u64 {
+    station::set_up(
+        row,
+        memory::first16(values, lent.values),
+        memory::first32(starts, lent.starts),
+        memory::part64(marks, 0, lent.marks),
     )
 }
 
-fn act(name: u64, n: u64, row: &mut [u64]) -> bool {
-    let mut values = [0u16; kept::VALUES];
-    let mut starts = [0u32; kept::STORE_DAYS];
-    store_out(row, &mut values, &mut starts);
-    let done = act_lent(name, n, row, &mut values, &mut starts);
-    store_back(row, &values, &starts);
-    let recorder = done.recorder;
-    kept::keep_recorder(recorder, row);
-    say::answer(done.answer, done.carried)
+fn begin(
+    said: Said,
+    line: &[u8],
+    row: &mut Row,
+    values: &mut Values,
+    starts: &mut Starts,
+    marks: &mut Marks,
+) -> u64 {
+    keep_start(said, script::word(line, 1), row);
+    set_up(memory::lent_store(row), row, values, starts, marks)
 }
 
-// The store's values and starts, as many as are lent, out of the row and back into it.
-fn store_out(row: &[u64], values: &mut [u16], starts: &mut [u32]) {
-    let v = kept::length(row, kept::LENT_VALUES);
-    let s = kept::length(row, kept::LENT_STARTS);
-    memory::to16(memory::part64(row, kept::VALUE, v), values);
-    memory::to32(memory::part64(row, kept::START, s), starts);
-}
-
-fn store_back(row: &mut [u64], values: &[u16], starts: &[u32]) {
-    let v = kept::length(row, kept::LENT_VALUES);
-    let s = kept::length(row, kept::LENT_STARTS);
-    memory::from16(memory::part64_mut(row, kept::VALUE, v), values);
-    memory::from32(memory::part64_mut(row, kept::START, s), starts);
-}
-
-// ---- `read N` and `read N ROOM`
-
-fn room_asked(line: &[u8]) -> u64 {
-    if script::arguments(line) == 1 {
-        return blocks::LONGEST;
+fn event(name: u64, n: u64) -> Event {
+    match name {
+        names::COUNT => Event::Count(memory::narrow(n)),
+        names::CLOCK => Event::Clock(n),
+        names::OFF => Event::Off,
+        names::ON => Event::On(n),
+        names::ACCESS => Event::Access,
+        names::METER => Event::Meter(memory::narrow(n)),
+        names::RESET => Event::Reset,
+        names::RATE => Event::Rate(memory::narrow(n)),
+        _ => Event::Reverse,
     }
-    words::number(line, 2)
 }
 
-fn read_lent(days: u64, row: &[u64], values: &[u16], starts: &[u32], out: &mut [u8]) -> u64 {
-    let v = kept::length(row, kept::LENT_VALUES);
-    let s = kept::length(row, kept::LENT_STARTS);
-    let m = kept::length(row, kept::LENT_MARKS);
-    let done = readout::read(
-        kept::recorder(row),
-        kept::narrow(days),
-        memory::part16(values, v),
-        memory::part32(starts, s),
-        memory::part64(row, kept::MARK, m),
-        out,
-    );
-    blocks::packed(done.answer, done.carried)
+fn step(
+    event: Event,
+    lent: Lent,
+    row: &mut [u64],
+    values: &mut [u16],
+    starts: &mut [u32],
+    marks: &mut [u64],
+) -> u64 {
+    station::step(
+        row,
+        event,
+        memory::first16(values, lent.values),
+        memory::first32(starts, lent.starts),
+        memory::part64(marks, 0, lent.marks),
+    )
 }
 
-fn read_out(days: u64, row: &[u64], out: &mut [u8]) -> u64 {
-    let mut values = [0u16; kept::VALUES];
-    let mut starts = [0u32; kept::STORE_DAYS];
-    store_out(row, &mut values, &mut starts);
-    read_lent(days, row, &values, &starts, out)
+fn act(
+    name: u64,
+    n: u64,
+    row: &mut Row,
+    values: &mut Values,
+    starts: &mut Starts,
+    marks: &mut Marks,
+) -> u64 {
+    let lent = memory::lent_store(row);
+    step(event(name, n), lent, row, values, starts, marks)
 }
 
-pub fn read(line: &[u8], row: &mut [u64], blocks: &mut [u8]) -> bool {
-    let days = words::small(line, 1);
-    let room = room_asked(line);
-    if (days == words::NONE) | (blocks::LONGEST < room) {
-        return false;
+// ---- `poke` and `given`
+
+// Whether a place lies in the store as it is lent, or before the store.
+fn is_lent(at: usize, lent: Lent) -> bool {
+    if at < memory::VALUE {
+        return true;
     }
-    let answer = read_out(days, row, blocks::output(blocks, room as usize));
-    blocks::sent(answer, row)
+    if at < memory::START {
+        return at - memory::VALUE < lent.values;
+    }
+    if at < memory::MARK {
+        return at - memory::START < lent.starts;
+    }
+    at - memory::MARK < lent.marks
+}
+
+// The place of what is changed, where it is there and takes the number.
+fn changed(said: Said, row: &Row) -> usize {
+    let place = places::named(said);
+    if place.most < places::last(said) {
+        return memory::NOWHERE;
+    }
+    if (said.name == names::POKE) & !is_lent(place.at, memory::lent_store(row)) {
+        return memory::NOWHERE;
+    }
+    place.at
+}
+
+fn change(
+    said: Said,
+    row: &mut Row,
+    values: &mut Values,
+    starts: &mut Starts,
+    marks: &mut Marks,
+) -> u64 {
+    let at = changed(said, row);
+    memory::put_at(at, places::last(said), row, values, starts, marks)
+}
+
+// What a line answers that changes recorder, store or given fields.
+pub fn answered(
+    said: Said,
+    line: &[u8],
+    row: &mut Row,
+    values: &mut Values,
+    starts: &mut Starts,
+    marks: &mut Marks,
+) -> u64 {
+    let kind = said.kind;
+    match kind {
+        commands::LENT => lend(said, row),
+        commands::BEGUN => begin(said, line, row, values, starts, marks),
+        commands::CHANGED => change(said, row, values, starts, marks),
+        _ => act(said.name, said.a, row, values, starts, marks),
+    }
 }

@@ -1,6 +1,5 @@
 // Answers on standard output.
 ghost use Prim.Native.Nat.{_<_, _≤_};
-use crate::memory;
 use libc::STDOUT_FILENO;
 
 // A text has room for the longest listing. Bytes in hexadecimal are printed in parts that fill it.
@@ -31,20 +30,30 @@ pub fn then_all(row: &[u64]) {
     }
 }
 
+fn then_half(value: u16) {
+    then(value as u64);
+}
+
+pub fn then_halves(values: &[u16]) {
+    let mut i: usize = 0;
+    while i < values.len() {
+        then_half(values[i]);
+        i += 1;
+    }
+}
+
 pub fn end() -> bool {
     text(b"\n");
     true
 }
 
-pub fn answer(number: u32, carried: u32) -> bool {
-    self::number(number as u64);
-    then(carried as u64);
-    end()
-}
-
-pub fn done(carried: u64) -> bool {
-    number(answers::DONE as u64);
-    then(carried);
+// An answer and what it carries, one number as the library for C has it. Whether it is one: NONE is said of a line that is not understood.
+pub fn answer(answer: u64) -> bool {
+    if answer == script::NONE {
+        return false;
+    }
+    number(answer / desk::ANSWER);
+    then(answer % desk::ANSWER);
     end()
 }
 
@@ -55,18 +64,10 @@ pub fn unread(line: u64) {
     end();
 }
 
-// A change is done where what it names is there; and whether it is.
-pub fn changed(there: bool) -> bool {
-    if there {
-        done(0);
-    }
-    there
-}
-
 // ---- bytes
 
 fn first(out: &[u8], k: usize) -> bool {
-    text(memory::part(out, 0, k));
+    text(parts::part8(out, 0, k));
     true
 }
 

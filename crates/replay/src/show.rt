@@ -1,52 +1,110 @@
-// A recorder and a room of its store, in decimal.
-use crate::kept;
-use crate::memory;
+// What a line shows and does not change: a recorder and a room of its store in decimal, a block, the ledger.
 use crate::say;
-use crate::words;
+use memory::Blocks;
+use memory::Ledger;
+use memory::Lent;
+use memory::Marks;
+use memory::Row;
+use memory::Starts;
+use memory::Values;
+use script::Said;
+use script::names;
+
+// How many numbers are behind the class.
+const BEHIND: usize = rows::NUMBERS - rows::WEIGHT;
 
 // The recorder's row but for its letters.
-pub fn recorder(row: &[u64]) -> bool {
-    say::number(kept::number(row, kept::RECORDER + rows::CLASS));
-    say::then_all(memory::part64(
-        row,
-        kept::RECORDER + rows::WEIGHT,
-        rows::NUMBERS - rows::WEIGHT,
-    ));
+fn recorder(row: &Row) -> bool {
+    say::number(memory::number(row, rows::CLASS));
+    say::then_all(parts::part64(row, rows::WEIGHT, BEHIND));
     say::end()
 }
 
-// A room: its start, its flags, its two words of marks, its values.
-fn room(room: usize, row: &[u64]) -> bool {
-    let d = room % kept::STORE_DAYS;
-    let marks = memory::part64(row, kept::MARK + marks::DAY_WORDS * d, marks::DAY_WORDS);
-    say::number(kept::number(row, kept::START + d));
-    say::then(kept::number(marks, marks::FLAGS_WORD));
-    say::then_all(memory::part64(marks, 0, marks::FLAGS_WORD));
-    say::then_all(memory::part64(row, kept::VALUE + block::HALVES * d, block::HALVES));
+// ---- a room of the store
+
+fn start(starts: &Starts, d: usize) -> u32 {
+    if d < memory::ALL_STARTS { starts[d] } else { 0 }
+}
+
+// Its start, its flags, its two words of marks, its values.
+fn room(room: u64, values: &Values, starts: &Starts, marks: &Marks) -> bool {
+    let d = room as usize % memory::STORE_DAYS;
+    let words = parts::part64(marks, marks::DAY_WORDS * d, marks::DAY_WORDS);
+    say::number(start(starts, d) as u64);
+    say::then(parts::number(words, marks::FLAGS_WORD));
+    say::then_all(parts::part64(words, 0, marks::FLAGS_WORD));
+    say::then_halves(parts::part16(values, block::HALVES * d, block::HALVES));
     say::end()
 }
 
-// The room of a day among so many.
+// The room of a day among so many; none has so large a number where there are none.
 fn room_of(day: u64, days: u32) -> u64 {
     if days == 0 {
-        return words::NONE;
+        return memory::STORE_DAYS as u64;
     }
     day % days as u64
 }
 
 // Whether a room lies in the store as it is lent.
-fn is_lent(room: u64, row: &[u64]) -> bool {
-    (room < kept::number(row, kept::LENT_VALUES) / block::HALVES as u64)
-        & (room < kept::number(row, kept::LENT_STARTS))
-        & (room < kept::number(row, kept::LENT_MARKS) / marks::DAY_WORDS as u64)
+fn is_lent(room: u64, lent: Lent) -> bool {
+    (room < lent.values as u64 / block::HALVES as u64)
+        & (room < lent.starts as u64)
+        & (room < lent.marks as u64 / marks::DAY_WORDS as u64)
 }
 
 // The room of a day, as it lies in the store.
-pub fn day(day: u64, row: &[u64]) -> bool {
-    let class = rows::class_numbered(kept::number(row, kept::RECORDER + rows::CLASS));
+pub fn day(day: u64, row: &Row, values: &Values, starts: &Starts, marks: &Marks) -> bool {
+    let class = rows::class_numbered(memory::number(row, rows::CLASS));
     let room = room_of(day, class.days());
-    if (day == words::NONE) | !is_lent(room, row) {
+    if !is_lent(room, memory::lent_store(row)) {
         return false;
     }
-    self::room(room as usize, row)
+    self::room(room, values, starts, marks)
+}
+
+// ---- a block, the ledger
+
+fn of_block(name: u64, block: &[u8]) -> bool {
+    match name {
+        names::BLOCK => say::hex(block),
+        names::CHECK => say::answer(desk::cop6_read(block)),
+        _ => say::listing(block),
+    }
+}
+
+fn summary(ledger: &[u8], day: u32) -> bool {
+    let mut numbers = [0u64; desk::SUMMARY];
+    let answer = desk::cop6_summary(ledger, day, &mut numbers);
+    say::number(answer / desk::ANSWER);
+    say::then_all(&numbers);
+    say::end()
+}
+
+fn missing(ledger: &[u8], day: u32) -> bool {
+    let m = ledger::missing(ledger, day);
+    say::number(m.answer as u64);
+    say::then(m.first as u64);
+    say::then(m.count as u64);
+    say::end()
+}
+
+fn of_ledger(name: u64, day: u64, ledger: &[u8]) -> bool {
+    match name {
+        names::LEDGER => say::hex(ledger),
+        names::SUMMARY => summary(ledger, memory::narrow(day)),
+        _ => missing(ledger, memory::narrow(day)),
+    }
+}
+
+pub fn shown(said: Said, row: &Row, blocks: &Blocks, ledger: &Ledger) -> bool {
+    let name = said.name;
+    match name {
+        names::SHOW => recorder(row),
+        names::SUMMARY | names::MISSING | names::LEDGER => of_ledger(
+            name,
+            said.a,
+            shelves::book::lent(row, ledger),
+        ),
+        _ => of_block(name, shelves::current(row, blocks)),
+    }
 }

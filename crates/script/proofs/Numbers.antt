@@ -22,8 +22,8 @@ use Rattle.format.specs.declared.Number.{Number}
 use Rattle.format.specs.declared.Number.the-variants.{Is, Bad}
 use Rattle.script.specs.declared.Small.{Small}
 use Rattle.script.specs.declared.Small.the-variants.{Fits, Not}
-use Rattle.script.specs.Words.{wordAt}
-use Rattle.script.specs.Numbers.{numberOf, fitted, smallOf, sixOf, ifFound, ifDate, at, dayNamed, ifMoment, joined, secondNamed, timeNamed}
+use Rattle.script.specs.Words.{wordAt, nameOf}
+use Rattle.script.specs.Numbers.{numberOf, fitted, smallOf, sixOf, ifFound, ifDate, at, dayNamed, ifMoment, joined, secondNamed, timeNamed, orNone, smallOrNone}
 
 module _ (w : List ℕ) where
   pub no-digit : length w < 1 → Bad ≡ numberOf w
@@ -155,3 +155,18 @@ module _ (s : List ℕ) (k l : ℕ) where
   pub two-words : (v w : List ℕ) (r : Number) → v ≡ wordAt k s → w ≡ wordAt l s → r ≡ joined (sixOf v) (sixOf w) → (l ≡ k → ⊥) → k ≤ l → l - k ≡ 1 → r ≡ timeNamed s k l
   unfolding timeNamed
   two-words v w r e f g h i j = rw (ne-eqb l k h, eq-eqb l (k + 1) (omega arith), ← e, ← f) g
+
+-- ---- the words of a line as numbers
+
+module _ (w v : List ℕ) (r : ℕ) (e : w ≡ v) where
+  pub name-in : r ≡ nameOf w → r ≡ nameOf v
+  name-in q = q ∙ ap nameOf e
+
+  pub number-in : (n : Number) → n ≡ numberOf w → r ≡ orNone n → r ≡ orNone (numberOf v)
+  number-in n q f = f ∙ ap orNone (q ∙ ap numberOf e)
+
+  pub day-in : (n : Small) → n ≡ dayNamed w → r ≡ smallOrNone n → r ≡ smallOrNone (dayNamed v)
+  day-in n q f = f ∙ ap smallOrNone (q ∙ ap dayNamed e)
+
+pub time-in : (s : List ℕ) (k l r : ℕ) (n : Number) → n ≡ timeNamed s k l → r ≡ orNone n → r ≡ orNone (timeNamed s k l)
+time-in s k l r n q f = f ∙ ap orNone q

@@ -66,3 +66,16 @@ unfoldable pub timeNamed : List ℕ → ℕ → ℕ → Number
 timeNamed s k l =
     cond (eqb l k) (secondNamed (wordAt k s))
     (cond (eqb l (k + 1)) (joined (sixOf (wordAt k s)) (sixOf (wordAt l s))) Bad)
+
+-- ---- the same as one number: what is none is larger than any
+
+abbrev pub none : ℕ
+none = 18446744073709551615
+
+abbrev pub orNone : Number → ℕ
+orNone (Is n) = n
+orNone Bad = none
+
+abbrev pub smallOrNone : Small → ℕ
+smallOrNone (Fits n) = n
+smallOrNone Not = none

@@ -1,4 +1,7 @@
-// The words of a script, and what they name: numbers, days, times, bytes in hexadecimal. Every function has an answer for every input.
+// The words of a script, and what they name: numbers, days, times, bytes in hexadecimal; `names` has the words themselves. Every function has an answer for every
+// input.
+pub mod names;
+
 ghost use mathlib.Core.Path.{_≡_};
 ghost use Prim.Native.Nat.{max, _+_, _-_, _*_, _<_, _≤_};
 ghost use lib.ListN.{length, drop};
@@ -6,7 +9,7 @@ ghost use Rattle.laws.specs.Bits.{bit};
 ghost use Rattle.calendar.specs.Digits.{dayOn, secondsOn};
 ghost use Rattle.script.specs.Words.{lineEnd, after, wordAt, argumentsIn, nameOf};
 ghost use Rattle.script.specs.Hex.{isHex, sixteenth, letterOf, hexOk, byteIn, unhexing, unhexed, letterAt, hexing, hexed};
-ghost use Rattle.script.specs.Numbers.{numberOf, smallOf, sixOf, ifDate, dayNamed, secondNamed, joined, timeNamed};
+ghost use Rattle.script.specs.Numbers.{numberOf, smallOf, sixOf, ifDate, dayNamed, secondNamed, joined, timeNamed, orNone, smallOrNone};
 use calendar::Found;
 use calendar::Moment;
 use format::Number;
@@ -15,6 +18,18 @@ use format::Number;
 pub enum Small {
     Fits(u32),
     Not,
+}
+
+// A line: what it is, its name, how many words follow, and the numbers that these name in their order (0 where there is none).
+pub struct Said {
+    pub kind: u64,
+    pub name: u64,
+    pub n: usize,
+    pub a: u64,
+    pub b: u64,
+    pub c: u64,
+    pub d: u64,
+    pub e: u64,
 }
 
 const SPACE: u8 = 32;
@@ -213,6 +228,55 @@ pub fn time(line: &[u8], k: usize, l: usize) -> Number
         return Number::Bad;
     }
     moment(word(line, k), word(line, l))
+}
+
+// ---- the words of a line as numbers: one that names none becomes NONE, which is larger than any, so that the test of a limit refuses it too
+
+pub const NONE: u64 = 18446744073709551615;
+
+fn or_none(n: Number) -> u64
+    ensures { λ r. ⌜ r ≡ orNone n ⌝ }
+{
+    match n {
+        Number::Is(x) => x,
+        Number::Bad => NONE,
+    }
+}
+
+fn small_or_none(n: Small) -> u64
+    ensures { λ r. ⌜ r ≡ smallOrNone n ⌝ }
+{
+    match n {
+        Small::Fits(x) => x as u64,
+        Small::Not => NONE,
+    }
+}
+
+pub fn name_at(line: &[u8], k: usize) -> u64
+    ensures { λ r. ⌜ r ≡ nameOf (wordAt k (now (line .entry))) ⌝ }
+{
+    name(word(line, k))
+}
+
+pub fn number_at(line: &[u8], k: usize) -> u64
+    ensures { λ r. ⌜ r ≡ orNone (numberOf (wordAt k (now (line .entry)))) ⌝ }
+{
+    let n = number(word(line, k));
+    or_none(n)
+}
+
+pub fn day_at(line: &[u8], k: usize) -> u64
+    ensures { λ r. ⌜ r ≡ smallOrNone (dayNamed (wordAt k (now (line .entry)))) ⌝ }
+{
+    let d = day(word(line, k));
+    small_or_none(d)
+}
+
+pub fn time_at(line: &[u8], k: usize, l: usize) -> u64
+    ensures { λ r. ⌜ r ≡ orNone (timeNamed (now (line .entry)) k l) ⌝ }
+{
+    let t = time(line, k, l);
+    or_none(t)
 }
 
 // ---- bytes in hexadecimal

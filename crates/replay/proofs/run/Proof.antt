@@ -1,4 +1,3 @@
-use mathlib.Core.Path.{_≡_}
 use Prim.Native.Nat.{_-_, _≤_}
 use lib.ListN.{length}
 use borrow.Author.Needs.{needs}
@@ -6,10 +5,12 @@ use Rattle.replay.proofs.run.Statement.{statement}
 use Rattle.replay.proofs.run.Tie as tie
 
 abbrev Inv-loop : tie.InvT-loop
-Inv-loop script row₀ blocks₀ ledger₀ at₀ from₀ row blocks ledger at from = (at ≤ from) × (length row ≡ length row₀) × (length blocks ≡ length blocks₀) × (length ledger ≡ length ledger₀)
+Inv-loop script row₀ values₀ starts₀ marks₀ blocks₀ ledger₀ at₀ from₀ row values starts marks blocks ledger at from =
+    at ≤ from
 
 abbrev μ-loop : tie.MeasureT-loop
-μ-loop script row₀ blocks₀ ledger₀ at₀ from₀ row blocks ledger at from = length script - from
+μ-loop script row₀ values₀ starts₀ marks₀ blocks₀ ledger₀ at₀ from₀ row values starts marks blocks ledger at from =
+    length script - from
 
 loop-holds : tie.Need-loop-holds Inv-loop μ-loop
 loop-holds c = search needs
@@ -50,15 +51,6 @@ loop-less-2 c = search needs
 loop-again-2 : tie.Need-loop-again-2 Inv-loop μ-loop
 loop-again-2 c = search needs
 
-same-length : tie.Need-same-length Inv-loop μ-loop
-same-length c = search needs
-
-same-length-2 : tie.Need-same-length-2 Inv-loop μ-loop
-same-length-2 c = search needs
-
-same-length-3 : tie.Need-same-length-3 Inv-loop μ-loop
-same-length-3 c = search needs
-
 returns : tie.Need-returns Inv-loop μ-loop
 returns c = search needs
 
@@ -81,7 +73,4 @@ run-spec =
     loop-again
     loop-less-2
     loop-again-2
-    same-length
-    same-length-2
-    same-length-3
     returns)

@@ -1,0 +1,2 @@
+-- Bytes: cases of a block's bytes.
+pub mod Bytes

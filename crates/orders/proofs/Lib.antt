@@ -1,0 +1,3 @@
+pub mod Opens
+pub mod Rows
+pub mod Orders

@@ -1,0 +1,2 @@
+-- Orders: cases of the order of answers.
+pub mod Orders

@@ -1,0 +1,2 @@
+-- Laws: what is taken and dropped past the end.
+pub mod Laws

@@ -1,0 +1,2 @@
+-- Rows: an element, or 0.
+pub mod Rows

@@ -1,0 +1,2 @@
+-- Laws: what each return says.
+pub mod Laws

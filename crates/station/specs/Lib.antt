@@ -1,0 +1,2 @@
+-- Station: an outstation whose recorder is a row of numbers.
+pub mod Station
