@@ -1,6 +1,5 @@
 // What a script's line asks for, as one table: what it is, how many words follow the name, and what they must be. Here the words become numbers, once; a line
-// that breaks its command's limits is not understood, so that no part of a program has to look at words again. `places` has the fields that a line can change.
-pub mod places;
+// that breaks its command's limits is not understood, so that no part of a program has to look at words again.
 mod words;
 
 use script::Said;
@@ -9,32 +8,21 @@ use script::names;
 // A command: what it is, the fewest and the most words behind its name, what the first of them is, and the largest that the first three numbers may be.
 struct Command(u64, usize, usize, u64, u64, u64, u64);
 
-// ---- what a command is: what lends the store, what happens to the recorder, a change by hand, what goes out of the recorder and the given fields or into these,
-// what changes the blocks, the ledger, and what only shows something
+// ---- what a command is, by what it may change: nothing, recorder and store or the given fields, blocks out of these or into them, blocks, the ledger
 
 pub const NOTHING: u64 = 0;
 
-pub const LENT: u64 = 1;
+pub const SHOWN: u64 = 1;
 
-pub const BEGUN: u64 = 2;
+pub const DAY_SHOWN: u64 = 2;
 
-pub const EVENT: u64 = 3;
+pub const METER: u64 = 3;
 
-pub const CHANGED: u64 = 4;
+pub const SENT: u64 = 4;
 
-pub const READ: u64 = 5;
+pub const BLOCK: u64 = 5;
 
-pub const WRITTEN: u64 = 6;
-
-pub const TAKEN: u64 = 7;
-
-pub const BLOCK: u64 = 8;
-
-pub const LEDGER: u64 = 9;
-
-pub const DAY_SHOWN: u64 = 10;
-
-pub const SHOWN: u64 = 11;
+pub const LEDGER: u64 = 6;
 
 // ---- what its first number is: the number in a word, the day, the time, a name; behind an identifier a day, or all that a set-up has
 
@@ -52,19 +40,19 @@ const SET_UP: u64 = 5;
 
 // ---- limits
 
-const ANY: u64 = words::NONE;
+const ANY: u64 = script::NONE;
 
-const LARGE: u64 = words::MOST;
+const LARGE: u64 = script::MOST;
 
-const SMALL: u64 = words::MOST_SMALL;
+const SMALL: u64 = script::MOST_SMALL;
 
 const SHELF: u64 = memory::SHELVES as u64 - 1;
 
 const ROOM: u64 = memory::SHELF as u64;
 
-const BYTE: u64 = words::MOST_BYTE;
+const BYTE: u64 = script::MOST_BYTE;
 
-const CLASSES: u64 = words::MOST_CLASS;
+const CLASSES: u64 = script::MOST_CLASS;
 
 const VALUES: u64 = memory::VALUES as u64;
 
@@ -77,19 +65,19 @@ const LEDGERS: u64 = ledger::LONGEST as u64;
 // The table.
 fn named(name: u64) -> Command {
     match name {
-        names::SETUP => Command(BEGUN, 6, 7, SET_UP, CLASSES, SMALL, LARGE),
-        names::COUNT | names::METER | names::RATE => Command(EVENT, 1, 1, NUMBER, SMALL, ANY, ANY),
-        names::CLOCK | names::ON => Command(EVENT, 1, 2, TIME, LARGE, ANY, ANY),
+        names::SETUP => Command(METER, 6, 7, SET_UP, CLASSES, SMALL, LARGE),
+        names::COUNT | names::METER | names::RATE => Command(METER, 1, 1, NUMBER, SMALL, ANY, ANY),
+        names::CLOCK | names::ON => Command(METER, 1, 2, TIME, LARGE, ANY, ANY),
         names::OFF | names::ACCESS | names::RESET | names::REVERSE => {
-            Command(EVENT, 0, 0, NUMBER, ANY, ANY, ANY)
+            Command(METER, 0, 0, NUMBER, ANY, ANY, ANY)
         }
         names::DAY => Command(DAY_SHOWN, 1, 1, DAY, SMALL, ANY, ANY),
-        names::LEND => Command(LENT, 0, 3, NUMBER, VALUES, STARTS, MARKS),
-        names::POKE => Command(CHANGED, 2, 3, NAME, ANY, LARGE, LARGE),
-        names::GIVEN => Command(CHANGED, 2, 4, NAME, ANY, LARGE, LARGE),
-        names::READ => Command(READ, 1, 2, NUMBER, SMALL, ROOM, ANY),
-        names::WRITE => Command(WRITTEN, 1, 1, NUMBER, ROOM, ANY, ANY),
-        names::FIELDS => Command(TAKEN, 0, 0, NUMBER, ANY, ANY, ANY),
+        names::LEND => Command(METER, 0, 3, NUMBER, VALUES, STARTS, MARKS),
+        names::POKE => Command(METER, 2, 3, NAME, ANY, LARGE, LARGE),
+        names::GIVEN => Command(METER, 2, 4, NAME, ANY, LARGE, LARGE),
+        names::READ => Command(SENT, 1, 2, NUMBER, SMALL, ROOM, ANY),
+        names::WRITE => Command(SENT, 1, 1, NUMBER, ROOM, ANY, ANY),
+        names::FIELDS => Command(SENT, 0, 0, NUMBER, ANY, ANY, ANY),
         names::HEX => Command(BLOCK, 1, 1, NAME, ANY, ANY, ANY),
         names::BYTE => Command(BLOCK, 2, 2, NUMBER, LARGE, BYTE, ANY),
         names::CUT => Command(BLOCK, 1, 1, NUMBER, ROOM, ANY, ANY),

@@ -1,18 +1,6 @@
 // Words of a line that are missing, and the class that a word names. A word that is none becomes NONE, which is larger than any number, so that the test of a
 // limit refuses it too.
 
-pub const NONE: u64 = script::NONE;
-
-// The largest number of 18 digits, and of 32 bits.
-pub const MOST: u64 = 999999999999999999;
-
-pub const MOST_SMALL: u64 = 4294967295;
-
-// The largest byte, and the last class's number.
-pub const MOST_BYTE: u64 = 255;
-
-pub const MOST_CLASS: u64 = 4;
-
 // Number k of a line with n words behind its name, and 0 where word k is not among them.
 pub fn argument(line: &[u8], k: usize, n: usize) -> u64 {
     if n < k {
@@ -35,14 +23,14 @@ fn class_of(letter: u8) -> u64 {
         b'c' => 3,
         b'd' => 4,
         b'A'..=b'Z' | b'e'..=b'z' => 0,
-        _ => NONE,
+        _ => script::NONE,
     }
 }
 
 // The number of the class that a word of one letter names.
 pub fn class(word: &[u8]) -> u64 {
     if word.len() != 1 {
-        return NONE;
+        return script::NONE;
     }
     class_of(word[0])
 }

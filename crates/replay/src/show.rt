@@ -1,5 +1,4 @@
 // What a line shows and does not change: a recorder and a room of its store in decimal, a block, the ledger.
-use crate::say;
 use memory::Blocks;
 use memory::Ledger;
 use memory::Lent;
@@ -15,9 +14,9 @@ const BEHIND: usize = rows::NUMBERS - rows::WEIGHT;
 
 // The recorder's row but for its letters.
 fn recorder(row: &Row) -> bool {
-    say::number(memory::number(row, rows::CLASS));
-    say::then_all(parts::part64(row, rows::WEIGHT, BEHIND));
-    say::end()
+    printed::number(memory::number(row, rows::CLASS));
+    printed::then_all(parts::part64(row, rows::WEIGHT, BEHIND));
+    printed::end()
 }
 
 // ---- a room of the store
@@ -30,11 +29,11 @@ fn start(starts: &Starts, d: usize) -> u32 {
 fn room(room: u64, values: &Values, starts: &Starts, marks: &Marks) -> bool {
     let d = room as usize % memory::STORE_DAYS;
     let words = parts::part64(marks, marks::DAY_WORDS * d, marks::DAY_WORDS);
-    say::number(start(starts, d) as u64);
-    say::then(parts::number(words, marks::FLAGS_WORD));
-    say::then_all(parts::part64(words, 0, marks::FLAGS_WORD));
-    say::then_halves(parts::part16(values, block::HALVES * d, block::HALVES));
-    say::end()
+    printed::number(start(starts, d) as u64);
+    printed::then(parts::number(words, marks::FLAGS_WORD));
+    printed::then_all(parts::part64(words, 0, marks::FLAGS_WORD));
+    printed::then_halves(parts::part16(values, block::HALVES * d, block::HALVES));
+    printed::end()
 }
 
 // The room of a day among so many; none has so large a number where there are none.
@@ -66,31 +65,31 @@ pub fn day(day: u64, row: &Row, values: &Values, starts: &Starts, marks: &Marks)
 
 fn of_block(name: u64, block: &[u8]) -> bool {
     match name {
-        names::BLOCK => say::hex(block),
-        names::CHECK => say::answer(desk::cop6_read(block)),
-        _ => say::listing(block),
+        names::BLOCK => printed::hex(block),
+        names::CHECK => printed::answer(desk::cop6_read(block)),
+        _ => printed::listing(block),
     }
 }
 
 fn summary(ledger: &[u8], day: u32) -> bool {
     let mut numbers = [0u64; desk::SUMMARY];
     let answer = desk::cop6_summary(ledger, day, &mut numbers);
-    say::number(answer / desk::ANSWER);
-    say::then_all(&numbers);
-    say::end()
+    printed::number(answer / desk::ANSWER);
+    printed::then_all(&numbers);
+    printed::end()
 }
 
 fn missing(ledger: &[u8], day: u32) -> bool {
     let m = ledger::missing(ledger, day);
-    say::number(m.answer as u64);
-    say::then(m.first as u64);
-    say::then(m.count as u64);
-    say::end()
+    printed::number(m.answer as u64);
+    printed::then(m.first as u64);
+    printed::then(m.count as u64);
+    printed::end()
 }
 
 fn of_ledger(name: u64, day: u64, ledger: &[u8]) -> bool {
     match name {
-        names::LEDGER => say::hex(ledger),
+        names::LEDGER => printed::hex(ledger),
         names::SUMMARY => summary(ledger, memory::narrow(day)),
         _ => missing(ledger, memory::narrow(day)),
     }

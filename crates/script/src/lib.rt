@@ -234,6 +234,15 @@ pub fn time(line: &[u8], k: usize, l: usize) -> Number
 
 pub const NONE: u64 = 18446744073709551615;
 
+// The largest number of 18 digits, of 32 bits, of a byte; the last class's number.
+pub const MOST: u64 = 999999999999999999;
+
+pub const MOST_SMALL: u64 = 4294967295;
+
+pub const MOST_BYTE: u64 = 255;
+
+pub const MOST_CLASS: u64 = 4;
+
 fn or_none(n: Number) -> u64
     ensures { λ r. ⌜ r ≡ orNone n ⌝ }
 {

@@ -1,6 +1,8 @@
-// The blocks that a script keeps, and its ledger, as bytes: each block lies on a shelf of its own, and of the ledger the first bytes are lent. What changes one
-// answers one number, as the library for C does, NONE for a line that is not understood, and the row has the lengths. Every function takes any memory.
+// The blocks that a script keeps, and its ledger, as bytes: each block lies on a shelf of its own, and of the ledger the first bytes are lent. What makes or changes
+// one answers one number, as the library for C does, NONE for a line that is not understood, and the row has the lengths. Every function takes any memory.
 pub mod book;
+mod given;
+pub mod sent;
 
 use format::Number;
 use memory::Blocks;

@@ -1,7 +1,7 @@
 use Prim.Native.Nat.{_-_, _*_, _≤_}
 use borrow.Author.Needs.{needs}
-use Rattle.replay.proofs.given.take_days.Statement.{statement}
-use Rattle.replay.proofs.given.take_days.Tie as tie
+use Rattle.shelves.proofs.given.take_days.Statement.{statement}
+use Rattle.shelves.proofs.given.take_days.Tie as tie
 
 abbrev Inv-loop : tie.InvT-loop
 Inv-loop block n row₀ values₀ starts₀ marks₀ i₀ row values starts marks i = i ≤ 52 * n

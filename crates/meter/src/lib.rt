@@ -1,5 +1,7 @@
-// The recorder and its store, lent as the script says: how they are lent, a set-up, the events, and what is changed by hand.
-use commands::places;
+// A script's recorder and its store: how they are lent, a set-up, the events, and what is changed by hand, there and in the given fields. Every function takes any
+// line and any memory, and answers one number, as the library for C does, NONE for a line that is not understood.
+mod places;
+
 use memory::Lent;
 use memory::Marks;
 use memory::Row;
@@ -170,11 +172,11 @@ pub fn answered(
     starts: &mut Starts,
     marks: &mut Marks,
 ) -> u64 {
-    let kind = said.kind;
-    match kind {
-        commands::LENT => lend(said, row),
-        commands::BEGUN => begin(said, line, row, values, starts, marks),
-        commands::CHANGED => change(said, row, values, starts, marks),
-        _ => act(said.name, said.a, row, values, starts, marks),
+    let name = said.name;
+    match name {
+        names::LEND => lend(said, row),
+        names::SETUP => begin(said, line, row, values, starts, marks),
+        names::POKE | names::GIVEN => change(said, row, values, starts, marks),
+        _ => act(name, said.a, row, values, starts, marks),
     }
 }

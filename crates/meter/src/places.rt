@@ -1,6 +1,5 @@
 // The fields that `poke` and `given` change, as two tables. `show` prints the recorder's row, which has the same places.
 ghost use Prim.Native.Nat.{_<_};
-use crate::words;
 use script::Said;
 use script::names;
 
@@ -75,15 +74,15 @@ fn shape_of(shape: u64) -> Shape {
 
 const BIT: u64 = 1;
 
-const CLASSES: u64 = words::MOST_CLASS;
+const CLASSES: u64 = script::MOST_CLASS;
 
-const BYTE: u64 = words::MOST_BYTE;
+const BYTE: u64 = script::MOST_BYTE;
 
 const SHORT: u64 = 65535;
 
-const SMALL: u64 = words::MOST_SMALL;
+const SMALL: u64 = script::MOST_SMALL;
 
-const LARGE: u64 = words::MOST;
+const LARGE: u64 = script::MOST;
 
 // ---- the fields
 

@@ -1,10 +1,12 @@
-// Blocks out of the recorder and its store, or out of the given fields.
+// Blocks out of the recorder and its store, or out of the given fields, and a block into these.
+use crate::given;
 use memory::Blocks;
 use memory::Marks;
 use memory::Row;
 use memory::Starts;
 use memory::Values;
 use script::Said;
+use script::names;
 
 fn read_out(
     days: u32,
@@ -22,20 +24,16 @@ fn read_out(
         parts::part16(values, 0, lent.values),
         parts::part32(starts, 0, lent.starts),
         parts::part64(marks, 0, lent.marks),
-        shelves::output(blocks, room),
+        crate::output(blocks, room),
     )
 }
 
 // `read N` has the longest room, `read N ROOM` the one that it names.
 fn room(said: Said) -> u64 {
-    if said.n == 1 {
-        shelves::LONGEST
-    } else {
-        said.b
-    }
+    if said.n == 1 { crate::LONGEST } else { said.b }
 }
 
-pub fn read(
+fn read(
     said: Said,
     row: &mut Row,
     values: &Values,
@@ -45,7 +43,7 @@ pub fn read(
 ) -> u64 {
     let days = memory::narrow(said.a);
     let answer = read_out(days, room(said), row, values, starts, marks, blocks);
-    shelves::keep_length(memory::CURRENT_BLOCK, answer, row)
+    crate::keep_length(memory::CURRENT_BLOCK, answer, row)
 }
 
 // As much of the given days as there are to write.
@@ -65,12 +63,12 @@ fn write_given(
         parts::part16(values, memory::VALUES, block::HALVES * n),
         parts::part32(starts, memory::STORE_DAYS, n),
         parts::part64(marks, memory::MARKS, marks::DAY_WORDS * n),
-        shelves::output(blocks, room),
+        crate::output(blocks, room),
     )
 }
 
 // `write ROOM`.
-pub fn write(
+fn write(
     room: u64,
     row: &mut Row,
     values: &Values,
@@ -79,5 +77,22 @@ pub fn write(
     blocks: &mut Blocks,
 ) -> u64 {
     let answer = write_given(room, row, values, starts, marks, blocks);
-    shelves::keep_length(memory::CURRENT_BLOCK, answer, row)
+    crate::keep_length(memory::CURRENT_BLOCK, answer, row)
+}
+
+// What a line answers that makes a block, or takes one apart.
+pub fn answered(
+    said: Said,
+    row: &mut Row,
+    values: &mut Values,
+    starts: &mut Starts,
+    marks: &mut Marks,
+    blocks: &mut Blocks,
+) -> u64 {
+    let name = said.name;
+    match name {
+        names::READ => read(said, row, values, starts, marks, blocks),
+        names::WRITE => write(said.a, row, values, starts, marks, blocks),
+        _ => given::take(row, values, starts, marks, blocks),
+    }
 }

@@ -1,8 +1,8 @@
 use Prim.Native.Nat.{_-_, _≤_}
 use lib.ListN.{length}
 use borrow.Author.Needs.{needs}
-use Rattle.replay.proofs.say.hex.Statement.{statement}
-use Rattle.replay.proofs.say.hex.Tie as tie
+use Rattle.printed.proofs.hex.Statement.{statement}
+use Rattle.printed.proofs.hex.Tie as tie
 
 abbrev Inv-loop : tie.InvT-loop
 Inv-loop bytes from₀ from = from ≤ length bytes

@@ -1,8 +1,8 @@
 use Prim.Native.Nat.{_-_, _≤_}
 use lib.ListN.{length}
 use borrow.Author.Needs.{needs}
-use Rattle.replay.proofs.say.then_halves.Statement.{statement}
-use Rattle.replay.proofs.say.then_halves.Tie as tie
+use Rattle.printed.proofs.then_halves.Statement.{statement}
+use Rattle.printed.proofs.then_halves.Tie as tie
 
 abbrev Inv-loop : tie.InvT-loop
 Inv-loop values i₀ i = i ≤ length values

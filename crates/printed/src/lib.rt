@@ -1,4 +1,4 @@
-// Answers on standard output.
+// Answers as lines on standard output: numbers, an answer with what it carries, bytes in hexadecimal, a block's listing.
 ghost use Prim.Native.Nat.{_<_, _≤_};
 use libc::STDOUT_FILENO;
 
