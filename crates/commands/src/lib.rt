@@ -42,17 +42,17 @@ const SET_UP: u64 = 5;
 
 const ANY: u64 = script::NONE;
 
-const LARGE: u64 = script::MOST;
+const LARGE: u64 = script::limits::MOST;
 
-const SMALL: u64 = script::MOST_SMALL;
+const SMALL: u64 = script::limits::MOST_SMALL;
 
 const SHELF: u64 = memory::SHELVES as u64 - 1;
 
 const ROOM: u64 = memory::SHELF as u64;
 
-const BYTE: u64 = script::MOST_BYTE;
+const BYTE: u64 = script::limits::MOST_BYTE;
 
-const CLASSES: u64 = script::MOST_CLASS;
+const CLASSES: u64 = script::limits::MOST_CLASS;
 
 const VALUES: u64 = memory::VALUES as u64;
 

@@ -74,15 +74,15 @@ fn shape_of(shape: u64) -> Shape {
 
 const BIT: u64 = 1;
 
-const CLASSES: u64 = script::MOST_CLASS;
+const CLASSES: u64 = script::limits::MOST_CLASS;
 
-const BYTE: u64 = script::MOST_BYTE;
+const BYTE: u64 = script::limits::MOST_BYTE;
 
 const SHORT: u64 = 65535;
 
-const SMALL: u64 = script::MOST_SMALL;
+const SMALL: u64 = script::limits::MOST_SMALL;
 
-const LARGE: u64 = script::MOST;
+const LARGE: u64 = script::limits::MOST;
 
 // ---- the fields
 

@@ -1,5 +1,6 @@
-// The words of a script, and what they name: numbers, days, times, bytes in hexadecimal; `names` has the words themselves. Every function has an answer for every
-// input.
+// The words of a script, and what they name: numbers, days, times, bytes in hexadecimal; `names` has the words themselves, `limits` the largest numbers. Every
+// function has an answer for every input.
+pub mod limits;
 pub mod names;
 
 ghost use mathlib.Core.Path.{_≡_};
@@ -233,15 +234,6 @@ pub fn time(line: &[u8], k: usize, l: usize) -> Number
 // ---- the words of a line as numbers: one that names none becomes NONE, which is larger than any, so that the test of a limit refuses it too
 
 pub const NONE: u64 = 18446744073709551615;
-
-// The largest number of 18 digits, of 32 bits, of a byte; the last class's number.
-pub const MOST: u64 = 999999999999999999;
-
-pub const MOST_SMALL: u64 = 4294967295;
-
-pub const MOST_BYTE: u64 = 255;
-
-pub const MOST_CLASS: u64 = 4;
 
 fn or_none(n: Number) -> u64
     ensures { λ r. ⌜ r ≡ orNone n ⌝ }
