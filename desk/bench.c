@@ -14,7 +14,9 @@
 #include <time.h>
 
 enum { DAYS = COP6_MOST_DAYS, LEDGER = COP6_LEDGER_BYTES(DAYS), BLOCK = COP6_BLOCK_BYTES(DAYS), DAY = 8825, ENDED = 30, READ = COP6_BLOCK_BYTES(TIMED_DAYS) };
-enum { COUNTS = 20000, CLOCKS = 20000, YEARS = 99, READS = 20, HALF_HOUR = 1800, YEAR = 31557600 };
+enum { COUNTS = 20000, CLOCKS = 20000, YEARS = 99, READS = 20, HALF_HOUR = 1800, DAY_SECONDS = 86400, YEAR = 31557600 };
+/* 01:10 of the day that fills the store, and 2099-12-31 23:59:59, a century on. */
+enum { FULL = (TIMED_DAYS - 1) * DAY_SECONDS + 70 * 60 };
 #define CENTURY UINT32_C(3155759999)
 #define FIGURES(number) FIGURES_OF(number)
 #define FIGURES_OF(number) #number
@@ -59,8 +61,14 @@ static uint64_t library_years(struct memory *m) { return timed_clocks(STORE(m), 
 static uint64_t c_years(struct memory *m) { return plain_clocks(STORE(m), YEARS, YEAR); }
 static uint64_t library_century(struct memory *m) { return timed_clocks(STORE(m), 1, CENTURY); }
 static uint64_t c_century(struct memory *m) { return plain_clocks(STORE(m), 1, CENTURY); }
-static uint64_t library_reads(struct memory *m) { return timed_reads(STORE(m), m->read, READ, READS); }
-static uint64_t c_reads(struct memory *m) { return plain_reads(STORE(m), m->read, READ, READS); }
+static uint64_t library_outages(struct memory *m) { return timed_outages(STORE(m), 2 * YEARS, YEAR); }
+static uint64_t c_outages(struct memory *m) { return plain_outages(STORE(m), 2 * YEARS, YEAR); }
+static uint64_t library_long_outage(struct memory *m) { return timed_outages(STORE(m), 2, CENTURY); }
+static uint64_t c_long_outage(struct memory *m) { return plain_outages(STORE(m), 2, CENTURY); }
+static uint64_t library_reads(struct memory *m) { return timed_reads(STORE(m), m->read, READ, READS, FULL); }
+static uint64_t c_reads(struct memory *m) { return plain_reads(STORE(m), m->read, READ, READS, FULL); }
+static uint64_t library_last_reads(struct memory *m) { return timed_reads(STORE(m), m->read, READ, READS, CENTURY); }
+static uint64_t c_last_reads(struct memory *m) { return plain_reads(STORE(m), m->read, READ, READS, CENTURY); }
 
 /* A job, how often it does what it is named for, how many rounds of it there are, and what it must answer, in which the answer number COP6_DONE is. */
 static const struct {
@@ -77,7 +85,10 @@ static const struct {
     {"a Clock over one boundary", nothing, library_clocks, c_clocks, CLOCKS, 100, (uint64_t)CLOCKS * HALF_HOUR},
     {"a Clock over a year", nothing, library_years, c_years, YEARS, 20, (uint64_t)YEARS * YEAR},
     {"a Clock over a century", nothing, library_century, c_century, 1, 20, CENTURY},
+    {"Off, and On after a year", nothing, library_outages, c_outages, YEARS, 20, (uint64_t)YEARS * YEAR},
+    {"Off, and On after a century", nothing, library_long_outage, c_long_outage, 1, 20, CENTURY},
     {"a read of " FIGURES(TIMED_DAYS) " days", nothing, library_reads, c_reads, READS, 50, (uint64_t)READS * READ},
+    {"a read of " FIGURES(TIMED_DAYS) " days to 2099-12-31", nothing, library_last_reads, c_last_reads, READS, 50, (uint64_t)READS * READ},
 };
 
 static uint64_t once(void (*before)(struct memory *), uint64_t (*job)(struct memory *), struct memory *m, uint64_t *answer) {

@@ -11,6 +11,7 @@
 
 uint64_t timed_counts(uint16_t *values, size_t v, uint32_t *starts, size_t p, uint64_t *marks, size_t m, uint32_t n);
 uint64_t timed_clocks(uint16_t *values, size_t v, uint32_t *starts, size_t p, uint64_t *marks, size_t m, uint32_t n, uint32_t by);
-uint64_t timed_reads(uint16_t *values, size_t v, uint32_t *starts, size_t p, uint64_t *marks, size_t m, uint8_t *out, size_t length, uint32_t n);
+uint64_t timed_outages(uint16_t *values, size_t v, uint32_t *starts, size_t p, uint64_t *marks, size_t m, uint32_t n, uint32_t by);
+uint64_t timed_reads(uint16_t *values, size_t v, uint32_t *starts, size_t p, uint64_t *marks, size_t m, uint8_t *out, size_t length, uint32_t n, uint32_t to);
 
 #endif

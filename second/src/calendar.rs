@@ -5,6 +5,8 @@
 pub const HALF_HOURS: usize = 48;
 pub const SECONDS_PER_DAY: u64 = HOURS * SECONDS_PER_HOUR;
 pub const SECONDS_PER_HALF_HOUR: u64 = SECONDS_PER_DAY / HALF_HOURS as u64;
+pub const YEARS: u64 = 100;
+pub const MONTHS: u64 = 12;
 /// Days from 2000-01-01 to 2099-12-31, both included.
 pub const DAYS: u64 = days_before(YEARS);
 pub const LAST_DAY: u64 = DAYS - 1;
@@ -13,8 +15,6 @@ pub const LAST_TIME: u64 = DAYS * SECONDS_PER_DAY - 1;
 pub const DATE_DIGITS: usize = 6;
 pub const TIME_DIGITS: usize = DATE_DIGITS + SECONDS_DIGITS;
 
-const YEARS: u64 = 100;
-const MONTHS: u64 = 12;
 const HOURS: u64 = 24;
 const MINUTES: u64 = 60;
 const SECONDS: u64 = 60;
@@ -182,6 +182,25 @@ mod tests {
         }
         for unreal in [b"240000", b"236000", b"235960", b"2359 9"] {
             assert_eq!(read_seconds(unreal), None);
+        }
+    }
+
+    #[test]
+    fn days_about_leap_days_and_new_years() {
+        for (day, date) in [
+            (0, "000101"),
+            (58, "000228"),
+            (59, "000229"),
+            (60, "000301"),
+            (365, "001231"),
+            (366, "010101"),
+            (1_460, "031231"),
+            (1_461, "040101"),
+            (8_825, "240229"),
+            (8_826, "240301"),
+            (36_524, "991231"),
+        ] {
+            assert_eq!(write_date(day), date);
         }
     }
 

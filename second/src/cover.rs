@@ -3,10 +3,11 @@
 
 use crate::answer::*;
 use crate::block::*;
-use crate::calendar::HALF_HOURS;
+use crate::calendar::{self, HALF_HOURS, SECONDS_PER_DAY};
 use crate::lives;
 use crate::quantities::{KWH_DIGITS, VALUE_DIGITS};
-use crate::script;
+use crate::recorder::Class;
+use crate::script::{self, Player};
 use std::collections::{BTreeMap, BTreeSet};
 
 const ANSWERS: u32 = CONFLICT + 1;
@@ -42,6 +43,9 @@ const ALLOWED: [(&str, &[u32]); 20] = [
     ("summary", ASKED_DAY),
     ("missing", ASKED_DAY),
 ];
+
+/// Clock and On.
+const TIMED_CALLS: usize = 2;
 
 /// The offsets of the fields of a block of two days: a wrong field is to be refused at each.
 fn field_offsets() -> BTreeSet<String> {
@@ -92,11 +96,52 @@ impl Coverage {
     }
 }
 
+/// What the recorder shows beside the answers.
+#[derive(Default)]
+struct Passed {
+    /// Calls that passed more days at once than their class holds, each with those days.
+    over: BTreeSet<(String, usize)>,
+    /// Days of reading.
+    read: BTreeSet<u64>,
+}
+
+impl Passed {
+    fn add(&mut self, text: &[u8]) {
+        if text.len() > script::MOST_SCRIPT_BYTES {
+            return;
+        }
+        let mut player = Player::new();
+        for (line, number) in text.split(|&byte| byte == b'\n').zip(1..) {
+            let before = player.recorder.time;
+            let answer = player.play_line(number, line).unwrap_or_default();
+            let word = line.split(|&byte| byte == b' ').next().unwrap_or_default();
+            if !answer.starts_with(&format!("{DONE} ")) {
+                continue;
+            }
+            let time = player.recorder.time;
+            match word {
+                b"clock" | b"on" => {
+                    let held = player.recorder.class.map_or(0, Class::days);
+                    if (time - before) / SECONDS_PER_DAY > held as u64 {
+                        self.over.insert((String::from_utf8_lossy(word).to_string(), held));
+                    }
+                }
+                b"read" => {
+                    self.read.insert(calendar::day_of(time));
+                }
+                _ => {}
+            }
+        }
+    }
+}
+
 /// Prints the table for a seed; true where every allowed cell is reached and no other.
 pub fn cover(seed: u64) -> bool {
     let mut coverage = Coverage::default();
+    let mut passed = Passed::default();
     let scripts = lives::round(seed);
     for script in &scripts {
+        passed.add(&script.text);
         let lines: Vec<&[u8]> = script.text.split(|&byte| byte == b'\n').collect();
         for played in script::play(&script.text) {
             let line = played.line.checked_sub(1).and_then(|index| lines.get(index)).copied();
@@ -130,6 +175,10 @@ pub fn cover(seed: u64) -> bool {
     let fields = field_offsets();
     let reached = fields.intersection(&coverage.offsets).count();
     println!("fields of a two-day block refused with {WRONG_FIELD}: {reached} of {}", fields.len());
+    let (over, all) = (passed.over.len(), TIMED_CALLS * Class::ALL.len());
+    println!("classes whose days were passed over at once, by clock and by on: {over} of {all}");
+    let read = passed.read.len() as u64;
+    println!("days of reading: {read} of {}", calendar::DAYS);
     println!("scripts: {}, bytes: {}", scripts.len(), scripts.iter().map(|script| script.text.len()).sum::<usize>());
-    right && reached == fields.len()
+    right && reached == fields.len() && over == all && read == calendar::DAYS
 }

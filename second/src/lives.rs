@@ -4,9 +4,11 @@
 mod boundaries;
 mod conflicts;
 mod damage;
+mod dates;
 mod hostile;
 mod lines;
 mod ordinary;
+mod outages;
 mod writer;
 
 use crate::block::{DEMAND_RESET, FLAGS, RATES};
@@ -37,7 +39,7 @@ pub struct Script {
 type Generator = fn(u64) -> Script;
 
 /// The kinds of a round, each with the number of scripts of that kind.
-const KINDS: [(Generator, u64); 19] = [
+const KINDS: [(Generator, u64); 27] = [
     (ordinary::weeks, 16),
     (ordinary::year, 1),
     (ordinary::ledgers, 3),
@@ -57,6 +59,14 @@ const KINDS: [(Generator, u64); 19] = [
     (damage::ledgers, 1),
     (conflicts::conflicts, 2),
     (lines::garbled, 2),
+    (|seed| outages::long(seed, Class::A), 1),
+    (|seed| outages::long(seed, Class::B), 1),
+    (|seed| outages::long(seed, Class::C), 1),
+    (|seed| outages::long(seed, Class::D), 1),
+    (dates::of_reading, 1),
+    (dates::words, 1),
+    (dates::of_records, 1),
+    (dates::of_resets, 1),
 ];
 
 /// All scripts of one round.

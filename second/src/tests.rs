@@ -203,6 +203,22 @@ fn an_outage_over_three_days() {
 }
 
 #[test]
+fn an_outage_of_as_many_days_as_the_class_holds() {
+    let mut outstation = Outstation::new(Class::A, 10, "240301120000", 0, 0);
+    outstation.event(Event::Meter(0));
+    outstation.event(Event::Count(50));
+    outstation.event(Event::Off);
+    assert_eq!(outstation.event(Event::On(at("240321001000"))), 0);
+    assert_eq!((outstation.recorder.days, outstation.recorder.current), (20, 100));
+    let oldest = outstation.day("240302");
+    assert_eq!((oldest.start, oldest.flags, oldest.level2, oldest.values), (50, 0x80, 0, [50; 48]));
+    // The room of 1 March: what had ended by noon is left of it, its flag and mark are not.
+    let today = outstation.day("240321");
+    assert_eq!((today.start, today.flags, today.level2), (50, 0x80, 0));
+    assert_eq!((today.values[..24].to_vec(), today.values[24..].to_vec()), (vec![0; 24], vec![50; 24]));
+}
+
+#[test]
 fn one_day_blocks_in_either_order() {
     let mut outstation = Outstation::new(Class::A, 10, "240229000000", 4_711_000, 0);
     outstation.event(Event::Count(50));

@@ -1,5 +1,6 @@
 pub mod Lengths
 pub mod Place
+pub mod Direct
 pub mod Dates
 pub mod Answers
 pub mod Times

@@ -1,6 +1,6 @@
 -- Lengths in a row: the place of a number in them, and back, for any lengths.
 -- Assumes nothing.
-use mathlib.Core.Path.{_≡_, refl, sym, ap, ap₂, _∙_}
+use mathlib.Core.Path.{_≡_, refl, sym, ap, _∙_}
 use Prim.Native.Nat.{ℕ, zero, suc, _+_, _-_, _≤_, _<_}
 use native.Mathlib.Nat.{add-zero, zero-add, add-suc, suc-add}
 use native.Mathlib.Numerals.{add-one}
@@ -91,20 +91,3 @@ module _ (len : ℕ → ℕ) where
     where
       go : (d : ℕ) → sumBelow len j ≤ sumBelow len (j + d)
       go d = omega (arith, sum-from d j)
-
-  -- the walk: what is left of it comes to the same place. Its turn and its two ends, for `search`
-  pub walked-end : (N k n l d : ℕ) → place len N 0 d ≡ place len (N - k) k n → l ≡ len k → n < l → record { which = k; rest = n } ≡ place len N 0 d
-  walked-end N k n l d i e g = sym (i ∙ here (N - k) k n (omega arith))
-
-  pub walked-on : (N k n l d : ℕ) → place len N 0 d ≡ place len (N - k) k n → k < N → l ≡ len k → l ≤ n
-      → place len N 0 d ≡ place len (N - (k + 1)) (k + 1) (n - l)
-  walked-on N k n l d i h e g =
-      let c : N - k ≡ suc (N - (k + 1)) = omega arith in
-      i ∙ ap (λ (f : ℕ). place len f k n) c ∙ next (N - (k + 1)) k n (omega arith)
-      ∙ ap₂ (λ (j m : ℕ). place len (N - (k + 1)) j (n - m)) (sym (add-one k)) (sym e)
-
-  pub walked-out : (N k n d : ℕ) → place len N 0 d ≡ place len (N - k) k n → N ≤ k → record { which = k; rest = n } ≡ place len N 0 d
-  unfolding place
-  walked-out N k n d i h =
-      let c : N - k ≡ 0 = omega arith in
-      sym (i ∙ ap (λ (f : ℕ). place len f k n) c)

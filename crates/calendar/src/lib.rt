@@ -1,9 +1,10 @@
 // Days, dates and seconds of 2000-01-01 00:00:00 to 2099-12-31 23:59:59, as numbers, as fields and as decimal digits.
-// A day's date is found by a walk over years and months, a date's day by a formula and a table. Every public function has an answer for every input.
+// A day's date is found by formulas, a date's day by a formula and a table: neither walks. Every public function has an answer for every input.
 ghost use mathlib.Core.Path.{_≡_};
 ghost use Prim.Native.Nat.{_+_, _*_, _<_, _≤_};
 ghost use Rattle.laws.specs.Tests.{sumBelow};
-ghost use Rattle.calendar.specs.Calendar.{leapDay, yearLength, monthLength, place, dayOf, dateOf};
+ghost use Rattle.calendar.specs.Calendar.{daysInAll, leapDay, yearLength, monthLength, place, dayOf, dateOf};
+ghost use Rattle.calendar.specs.Shift.{shift};
 ghost use Rattle.calendar.specs.Clock.{secondOf, stampOf, endedAt, endedOn};
 ghost use Rattle.calendar.specs.Digits.{dateDigits, timeDigits, dayOn, secondsOn};
 
@@ -60,12 +61,6 @@ fn leap_day(yy: u32) -> u32
     if yy % 4 == 0 { 1 } else { 0 }
 }
 
-fn year_length(yy: u32) -> u32
-    ensures { λ r. ⌜ (r ≡ yearLength yy) × (r ≤ 366) ⌝ }
-{
-    365 + leap_day(yy)
-}
-
 // Of month i, counted from 0.
 fn month_length(yy: u32, i: usize) -> u32
     ensures { λ r. ⌜ (r ≡ monthLength yy i) × (r ≤ 31) ⌝ }
@@ -79,38 +74,44 @@ fn month_length(yy: u32, i: usize) -> u32
     0
 }
 
-// The year of a day, and the day's place in it.
+// The days of four years.
+const FOUR_YEARS: u32 = 1461;
+
+// The year of a day, and the day's place in it. 2000 is a leap year and leads its four: the formula for a leap year that ends its four is another.
 fn year_at(d: u32) -> Spot
+    requires { ⌜ d < daysInAll ⌝ }
     ensures { λ r. ⌜ (r ≡ place yearLength 99 0 d) × (r .which ≤ 99) × (r .rest ≤ d) ⌝ }
 {
-    let mut y: u32 = 0;
-    let mut n = d;
-    while y < 99 {
-        let l = year_length(y);
-        if n < l {
-            return Spot { which: y, rest: n };
-        }
-        n -= l;
-        y += 1;
+    let y = 4 * d / FOUR_YEARS;
+    Spot {
+        which: y,
+        rest: d - days_before_year(y),
     }
-    Spot { which: y, rest: n }
 }
 
-// The month of a day of a year, counted from 0, and the day's place in it.
+// Where a day of a year with l days more than 365 comes to stand, as though February had 30.
+fn shifted(l: u32, n: u32) -> u32
+    requires { ⌜ (l ≤ 1) × (n < 366) ⌝ }
+    ensures { λ r. ⌜ (r ≡ shift l n) × (r ≤ 368) ⌝ }
+{
+    if n < DAYS_BEFORE[2] + l {
+        n
+    } else {
+        n + (2 - l)
+    }
+}
+
+// The month of a day of a year, counted from 0, and the day's place in it: with a February of 30 days, (367 i + 5) / 12 days are before month i.
 fn month_at(yy: u32, d: u32) -> Spot
+    requires { ⌜ d < yearLength yy ⌝ }
     ensures { λ r. ⌜ (r ≡ place (monthLength yy) 11 0 d) × (r .which ≤ 11) × (r .rest ≤ d) ⌝ }
 {
-    let mut i: u32 = 0;
-    let mut n = d;
-    while i < 11 {
-        let l = month_length(yy, i as usize);
-        if n < l {
-            return Spot { which: i, rest: n };
-        }
-        n -= l;
-        i += 1;
+    let s = shifted(leap_day(yy), d);
+    let i = (12 * s + 6) / 367;
+    Spot {
+        which: i,
+        rest: s - (367 * i + 5) / 12,
     }
-    Spot { which: i, rest: n }
 }
 
 // The date of a day number, and all zeros past the calendar's end.

@@ -1,3 +1,4 @@
--- Laws of the store that the proofs here and above cite. Spans: half-hours of one day passed over together.
+-- Laws of the store that the proofs here and above cite. Spans: half-hours of one day passed over together. Late: half-hours whose places later ones take.
 pub mod Laws
 pub mod Spans
+pub mod Late

@@ -1,23 +1,25 @@
 -- What each loop that is timed keeps, and what it has done at its end.
 -- Assumes nothing.
-use Prim.Native.Nat.{ℕ, _+_, _*_, _^_, _≤_, _<_}
+use Prim.Native.Nat.{ℕ, _+_, _*_, _/_, _%_, _^_, _≤_, _<_}
 use native.Mathlib.Nat.{mul-le-mul}
 use mir.Syntax.{w64}
 use mir.Val.{Fits}
 use mathlib.Core.Path.{_≡_, refl, sym, ap, _∙_}
 use mathlib.Core.List.{List}
 use native.Mathlib.Omega.{arith}
+use borrow.Author.Tests.{eq-eqb, ne-eqb}
 use Rattle.laws.specs.Each.{forTo}
 use Rattle.laws.proofs.Loop.{for-on, for-done}
 use Rattle.store.specs.Store.{Store, store}
 use Rattle.recorder.specs.declared.Event.{Event}
+use Rattle.recorder.specs.declared.Event.the-variants.{Off, On}
 use Rattle.recorder.specs.declared.Stepped.{Stepped}
 use Rattle.recorder.specs.Recorder.{Mem, mem}
 use Rattle.recorder.specs.Step.{Done, done, step}
 use Rattle.recorder.specs.SetUp.{setUp}
 use Rattle.readout.specs.Read.{ReadDone, readDone, readBack}
 use Rattle.timing.specs.declared.Kind.{Kind}
-use Rattle.timing.specs.Timed.{allDays, meter, begun, nth, coming, played, totalOf, timeOf, Reads, reads, reading, readsOf}
+use Rattle.timing.specs.Timed.{allDays, meter, begun, outage, nth, coming, played, totalOf, timeOf, Reads, reads, reading, readsOf}
 
 -- ---- one call
 
@@ -28,6 +30,13 @@ module _ (d : Stepped) (v s m : List ℕ) where
 
 pub product-fits : (a b : ℕ) → a < 2 ^ 32 → b < 2 ^ 32 → Fits w64 (a * b)
 product-fits a b h k = let q : a * b ≤ 4294967295 * 4294967295 = mul-le-mul {n₂ = 4294967295} {m₂ = 4294967295} (omega arith) (omega arith) in omega arith
+
+module _ (by i : ℕ) where
+  pub outage-begins : i % 2 ≡ 1 → Off ≡ outage by i
+  outage-begins e = rw (eq-eqb (i % 2) 1 e)
+
+  pub outage-ends : (t : ℕ) → (i % 2 ≡ 1 → ⊥) → t ≡ by * (i / 2) → On t ≡ outage by i
+  outage-ends t n e = rw (ne-eqb (i % 2) 1 n, e)
 
 -- ---- loops: what is still to be done comes to the whole
 

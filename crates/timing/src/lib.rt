@@ -1,11 +1,12 @@
 // The recorder's events and its read in loops, for desk/bench to time them: set-up with fixed values in a lent store of class d, then so many events,
 // one after another, by the recorder's own entries. It is no part of the product.
 ghost use mathlib.Core.Path.{_≡_};
+ghost use Prim.Native.Nat.{_*_};
 ghost use Rattle.laws.specs.Each.{forTo};
 ghost use Rattle.recorder.specs.Recorder.{mem};
 ghost use Rattle.store.specs.Store.{store};
-ghost use Rattle.timing.specs.declared.Kind.the-variants.{Counts, Clocks};
-ghost use Rattle.timing.specs.Timed.{begun, nth, coming, played, totalled, totalOf, timeOf, stored, reads, readsOf};
+ghost use Rattle.timing.specs.declared.Kind.the-variants.{Counts, Clocks, Outages};
+ghost use Rattle.timing.specs.Timed.{begun, outage, nth, coming, played, totalled, totalOf, timeOf, stored, reads, readsOf};
 use quantity::WattHours;
 use recorder::Event;
 use recorder::Recorder;
@@ -13,22 +14,38 @@ use store::Class;
 
 const ALL_DAYS: u32 = Class::DAYS_D;
 
-// To 01:10 of the last of them, so that every room of the store has a day.
-const FULL: u32 = (ALL_DAYS - 1) * calendar::SECONDS_OF_DAY as u32 + 4200;
-
 // Which events come, one after another.
 pub enum Kind {
     Counts,
     Clocks(u32),
+    Outages(u32),
 }
 
-// The i-th event: the counter goes on by one pulse each time, or the time by so many seconds.
+// The time after i times so many seconds.
+fn time_at(by: u32, i: u32) -> u64
+    ensures { λ r. ⌜ r ≡ by * i ⌝ }
+{
+    (by as u64) * (i as u64)
+}
+
+// Off, and On so many seconds later, in turn.
+fn outage(by: u32, i: u32) -> Event
+    ensures { λ r. ⌜ r ≡ outage by i ⌝ }
+{
+    if i % 2 == 1 {
+        return Event::Off;
+    }
+    Event::On(time_at(by, i / 2))
+}
+
+// The i-th event: the counter goes on by one pulse each time, or the time by so many seconds, with power or without.
 fn nth(kind: Kind, i: u32) -> Event
     ensures { λ r. ⌜ r ≡ nth kind i ⌝ }
 {
     match kind {
         Kind::Counts => Event::Count(i),
-        Kind::Clocks(by) => Event::Clock((by as u64) * (i as u64)),
+        Kind::Clocks(by) => Event::Clock(time_at(by, i)),
+        Kind::Outages(by) => outage(by, i),
     }
 }
 
@@ -111,6 +128,22 @@ pub extern "C" fn timed_clocks(
     r.clock.time
 }
 
+// n events of outages, Off and On in turn, each outage so many seconds long; the time afterwards.
+#[no_mangle]
+pub extern "C" fn timed_outages(
+    values: &mut [u16],
+    starts: &mut [u32],
+    marks: &mut [u64],
+    n: u32,
+    by: u32,
+) -> u64
+    ensures { λ r. ⌜ totalled r (store (now (values .exit)) (now (starts .exit)) (now (marks .exit)))
+        ≡ timeOf (played (Outages by) n (store (now (values .entry)) (now (starts .entry)) (now (marks .entry)))) ⌝ }
+{
+    let r = played(Kind::Outages(by), values, starts, marks, n);
+    r.clock.time
+}
+
 fn read_often(
     r: Recorder,
     values: &[u16],
@@ -131,7 +164,7 @@ fn read_often(
     bytes
 }
 
-// n reads of all days of a full store; the bytes that they gave, added up.
+// A Clock to a second, and n reads of all days; the bytes that they gave, added up.
 #[no_mangle]
 pub extern "C" fn timed_reads(
     values: &mut [u16],
@@ -139,11 +172,12 @@ pub extern "C" fn timed_reads(
     marks: &mut [u64],
     out: &mut [u8],
     n: u32,
+    to: u32,
 ) -> u64
     ensures { λ r. ⌜ (store (now (values .exit)) (now (starts .exit)) (now (marks .exit))
-        ≡ stored (store (now (values .entry)) (now (starts .entry)) (now (marks .entry))) .store)
-        × (reads (now (out .exit)) r ≡ readsOf n (stored (store (now (values .entry)) (now (starts .entry)) (now (marks .entry)))) (now (out .entry))) ⌝ }
+        ≡ stored to (store (now (values .entry)) (now (starts .entry)) (now (marks .entry))) .store)
+        × (reads (now (out .exit)) r ≡ readsOf n (stored to (store (now (values .entry)) (now (starts .entry)) (now (marks .entry)))) (now (out .entry))) ⌝ }
 {
-    let r = played(Kind::Clocks(FULL), values, starts, marks, 1);
+    let r = played(Kind::Clocks(to), values, starts, marks, 1);
     read_often(r, values, starts, marks, out, n)
 }

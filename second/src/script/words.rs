@@ -113,7 +113,8 @@ pub fn hexadecimal(word: Word) -> Option<Vec<u8>> {
 }
 
 pub fn print_hexadecimal(bytes: &[u8]) -> String {
-    bytes.iter().map(|byte| format!("{byte:02x}")).collect()
+    let digit = |number: u8| char::from_digit(u32::from(number), 16).unwrap_or_default();
+    bytes.iter().flat_map(|byte| [digit(byte / 16), digit(byte % 16)]).collect()
 }
 
 pub fn print(answer: Answer) -> Option<String> {

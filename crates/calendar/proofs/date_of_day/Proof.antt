@@ -1,3 +1,4 @@
+use Rattle.calendar.proofs.Direct.{year-fits}
 use Rattle.calendar.proofs.Answers.{no-such-day, is-date, is-short}
 use borrow.Author.Needs.{needs}
 use Rattle.calendar.proofs.date_of_day.Statement.{statement}
@@ -10,7 +11,7 @@ year-at-requires : tie.Need-year-at-requires
 year-at-requires c κs = search needs
 
 month-at-requires : tie.Need-month-at-requires
-month-at-requires c κs = search needs
+month-at-requires c κs = search (year-fits, needs)
 
 add-t5 : tie.Need-add-t5
 add-t5 c = search needs

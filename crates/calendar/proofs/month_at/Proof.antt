@@ -1,53 +1,31 @@
-use mathlib.Core.Path.{_≡_, refl}
-use Prim.Native.Nat.{_-_, _≤_}
-use native.Mathlib.Omega.{arith}
-use Rattle.calendar.specs.Calendar.{place, monthLength}
-use Rattle.calendar.proofs.Place.{walked-on, walked-end, walked-out}
+use Rattle.calendar.proofs.Direct.{year-short, month-below, month-last, month-rest, month-at}
 use borrow.Author.Needs.{needs}
 use Rattle.calendar.proofs.month_at.Statement.{statement}
 use Rattle.calendar.proofs.month_at.Tie as tie
 
-abbrev Inv-loop : tie.InvT-loop
-Inv-loop yy d i₀ n₀ i n = (i ≤ 11) × (n ≤ d) × (place (monthLength yy) 11 0 d ≡ place (monthLength yy) (11 - i) i n)
+leap-day-requires : tie.Need-leap-day-requires
+leap-day-requires c κs = search needs
 
-abbrev μ-loop : tie.MeasureT-loop
-μ-loop yy d i₀ n₀ i n = 11 - i
+shifted-requires : tie.Need-shifted-requires
+shifted-requires c κs = search (year-short, needs)
 
-loop-holds : tie.Need-loop-holds Inv-loop μ-loop
-loop-holds c = (omega arith, omega arith, refl)
+mul-i : tie.Need-mul-i
+mul-i c = search needs
 
-cast-month-length : tie.Need-cast-month-length Inv-loop μ-loop
-cast-month-length c = search needs
-
-month-length-requires : tie.Need-month-length-requires Inv-loop μ-loop
-month-length-requires c κs = search needs
-
-returns : tie.Need-returns Inv-loop μ-loop
-returns c = (search walked-end, omega arith, omega arith)
-
-add-i : tie.Need-add-i Inv-loop μ-loop
+add-i : tie.Need-add-i
 add-i c = search needs
 
-loop-less : tie.Need-loop-less Inv-loop μ-loop
-loop-less c = search needs
+mul-t5 : tie.Need-mul-t5
+mul-t5 c = search needs
 
-loop-again : tie.Need-loop-again Inv-loop μ-loop
-loop-again c = (omega arith, omega arith, search walked-on)
+add-t6 : tie.Need-add-t6
+add-t6 c = search needs
 
-returns-2 : tie.Need-returns-2 Inv-loop μ-loop
-returns-2 c = (search walked-out, omega arith, omega arith)
+sub-t8 : tie.Need-sub-t8
+sub-t8 c = search month-below
+
+returns : tie.Need-returns
+returns c = (search month-at, search month-last, search month-rest)
 
 pub month-at-spec : {M : Type 1} → statement M
-month-at-spec =
-    tie.close
-    (tie.spec
-    Inv-loop
-    μ-loop
-    loop-holds
-    cast-month-length
-    month-length-requires
-    returns
-    add-i
-    loop-less
-    loop-again
-    returns-2)
+month-at-spec = tie.close (tie.spec leap-day-requires shifted-requires mul-i add-i mul-t5 add-t6 sub-t8 returns)

@@ -1,4 +1,3 @@
-use Rattle.timing.proofs.Laws.{product-fits}
 use borrow.Author.Needs.{needs}
 use Rattle.timing.proofs.nth.Statement.{statement}
 use Rattle.timing.proofs.nth.Tie as tie
@@ -9,11 +8,14 @@ enum-told c = search needs
 enum-known-kind : tie.Need-enum-known-kind
 enum-known-kind c = search needs
 
-cast-t5 : tie.Need-cast-t5
-cast-t5 c = search needs
+time-at-requires : tie.Need-time-at-requires
+time-at-requires c κs = search needs
 
-mul-t7 : tie.Need-mul-t7
-mul-t7 c = search (product-fits, needs)
+enum-known-kind-2 : tie.Need-enum-known-kind-2
+enum-known-kind-2 c = search needs
+
+outage-requires : tie.Need-outage-requires
+outage-requires c κs = search needs
 
 returns : tie.Need-returns
 returns c = cc
@@ -21,5 +23,18 @@ returns c = cc
 returns-2 : tie.Need-returns-2
 returns-2 c = cc
 
+returns-3 : tie.Need-returns-3
+returns-3 c = cc
+
 pub nth-spec : {M : Type 1} → statement M
-nth-spec = tie.close (tie.spec enum-told enum-known-kind cast-t5 mul-t7 returns returns-2)
+nth-spec =
+    tie.close
+    (tie.spec
+    enum-told
+    enum-known-kind
+    time-at-requires
+    enum-known-kind-2
+    outage-requires
+    returns
+    returns-2
+    returns-3)
