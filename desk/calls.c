@@ -125,6 +125,7 @@ static void every_date(void) {
         }
     IS(day, LAST_DAY + 1);
     IS(cop6_date(day), 0);
+    IS(cop6_day(1000101), COP6_NO_DAY);
 }
 
 static void reading(void) {

@@ -11,7 +11,7 @@ use Rattle.laws.proofs.Bools.{both}
 use Rattle.laws.proofs.Tests.{all-at, sum-none}
 use Rattle.calendar.specs.declared.Spot.{Spot}
 use Rattle.calendar.specs.Calendar.{daysInAll, leapDay, yearLength, months, monthLength, place}
-use Rattle.calendar.specs.Shift.{shift}
+use Rattle.calendar.specs.Shift.{beforeMarch, shift}
 use Rattle.calendar.proofs.Lengths.{leap-le, years-before, all-years}
 use Rattle.calendar.proofs.Place.{place-of, place-fits, sum-one}
 
@@ -36,13 +36,13 @@ year-fits d y h e = rw e (place-fits yearLength 99 0 d (omega (arith, sum-none y
 
 -- ---- the month: its formula, and the days before it, in a year whose February has 30
 
-pub shift-here : (l n : ℕ) → n < 59 + l → n ≡ shift l n
+pub shift-here : (l n : ℕ) → n < beforeMarch l → n ≡ shift l n
 unfolding shift
-shift-here l n h = rw (lt-ltb n (59 + l) h)
+shift-here l n h = rw (lt-ltb n (beforeMarch l) h)
 
-pub shift-on : (l n : ℕ) → 59 + l ≤ n → n + (2 - l) ≡ shift l n
+pub shift-on : (l n : ℕ) → beforeMarch l ≤ n → n + (2 - l) ≡ shift l n
 unfolding shift
-shift-on l n h = rw (le-ltb n (59 + l) h)
+shift-on l n h = rw (le-ltb n (beforeMarch l) h)
 
 abbrev monthOf : ℕ → ℕ
 monthOf s = (12 * s + 6) / 367

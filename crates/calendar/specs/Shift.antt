@@ -3,6 +3,10 @@ use Prim.Native.Nat.{ℕ, _+_, _-_}
 use mathlib.Core.Bool.{cond}
 use lib.Dec.{ltb}
 
--- where day n of a year comes to stand, if the year has l days more than 365
+-- the days before March, in a year that has l days more than 365
+abbrev pub beforeMarch : ℕ → ℕ
+beforeMarch l = 59 + l
+
+-- where day n of that year comes to stand
 unfoldable pub shift : ℕ → ℕ → ℕ
-shift l n = cond (ltb n (59 + l)) n (n + (2 - l))
+shift l n = cond (ltb n (beforeMarch l)) n (n + (2 - l))
