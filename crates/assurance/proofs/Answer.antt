@@ -8,6 +8,7 @@ use native.Mathlib.Omega.{arith}
 use lib.ListN.{length}
 use borrow.Author.Tests.{eq-eqb, ne-eqb}
 use Rattle.laws.proofs.Round.{round-less}
+use Rattle.quantity.specs.Units.{unitOf, totalRound, readingRound, readingAt, unitsFrom}
 use Rattle.store.specs.Class.{rightLengths}
 use Rattle.registers.specs.Energy.{addedOf, unitsWith}
 use Rattle.recorder.specs.declared.SetUp.{SetUp}
@@ -27,21 +28,21 @@ use Rattle.assurance.proofs.Kept.{Given, Kept, capOf, cap-is}
 use Rattle.assurance.proofs.Marking.{largest-le}
 
 -- the units of the running half-hour, in registers that run round and on paper
-more-of : (t w x : ℕ) → t ≡ x % 1000000000 → (t + w) / 10 - t / 10 ≡ (x + w) / 10 - x / 10
+more-of : (t w x : ℕ) → t ≡ x % totalRound → unitsFrom t (t + w) ≡ unitsFrom x (x + w)
 more-of t w x e = omega arith
 
-low-of : (t x : ℕ) → t ≡ x % 1000000000 → t / 10 % 100000000 ≡ x / 10 % 100000000
+low-of : (t x : ℕ) → t ≡ x % totalRound → readingAt t ≡ readingAt x
 low-of t x e = omega arith
 
-sum-of : (x y w : ℕ) → y ≤ x → x / 10 - y / 10 + ((x + w) / 10 - x / 10) ≡ (x + w) / 10 - y / 10
+sum-of : (x y w : ℕ) → y ≤ x → unitsFrom y x + unitsFrom x (x + w) ≡ unitsFrom y (x + w)
 sum-of x y w l = omega arith
 
-units-same : (t b w x y : ℕ) → t ≡ x % 1000000000 → b ≡ y / 10 % 100000000 → y ≤ x → x / 10 - y / 10 ≤ mostUnits
-    → (t / 10 % 100000000 + 100000000 - b % 100000000) % 100000000 + ((t + w) / 10 - t / 10) ≡ (x + w) / 10 - y / 10
+units-same : (t b w x y : ℕ) → t ≡ x % totalRound → b ≡ readingAt y → y ≤ x → unitsFrom y x ≤ mostUnits
+    → (readingAt t + readingRound - b % readingRound) % readingRound + unitsFrom t (t + w) ≡ unitsFrom y (x + w)
 units-same t b w x y et eb up slow =
-    rw (more-of t w x et, low-of t x et, eb, mod-mod (y / 10) 100000000, round-less 100000000 (x / 10) (y / 10) (omega arith) (omega arith)) (sum-of x y w up)
+    rw (more-of t w x et, low-of t x et, eb, mod-mod (y / unitOf) readingRound, round-less readingRound (x / unitOf) (y / unitOf) (omega arith) (omega arith)) (sum-of x y w up)
 
-slow-at : (s : SetUp) (p : Paper) (x : Mem) → Kept s p x → totalAt s (p .tape .counts) (suc (now p)) / 10 - totalAt s (p .tape .counts) (now p) / 10 ≤ mostUnits
+slow-at : (s : SetUp) (p : Paper) (x : Mem) → Kept s p x → unitsFrom (totalAt s (p .tape .counts) (now p)) (totalAt s (p .tape .counts) (suc (now p))) ≤ mostUnits
 unfolding unitsOf
 slow-at s p x k = k .at .energy .slow (now p)
 
@@ -68,7 +69,7 @@ module _ (s : SetUp) (z : Given s) (p : Paper) (x : Mem) (k : Kept s p x) where
           total = omega (arith, g .energy .total);
           low = g .energy .rate-low;
           high = g .energy .rate-high;
-          rates = λ i l. rw (g .energy .rates i l) (mod-lt (p .tape .counts .rate i) {m = 1000000000} (omega arith));
+          rates = λ i l. rw (g .energy .rates i l) (mod-lt (p .tape .counts .rate i) {m = totalRound} (omega arith));
         };
         demand = record {
           current =

@@ -13,7 +13,7 @@ use borrow.Author.Tests.{eqb-true, eqb-false}
 use Rattle.laws.proofs.Round.{round-less}
 use Rattle.laws.proofs.Ring.{ring-apart}
 use Rattle.laws.proofs.Split.{by-dec, by-test}
-use Rattle.quantity.specs.Units.{lastFour, advance}
+use Rattle.quantity.specs.Units.{unitOf, totalRound, valueRound, readingAt, valueAt, lastFour, advance}
 use Rattle.store.specs.Store.{Store, Fits, closed, opened, turned}
 use Rattle.store.proofs.Laws.{closed-fits, turned-fits}
 use Rattle.registers.specs.Energy.{demandSince}
@@ -27,8 +27,8 @@ use Rattle.assurance.proofs.Kept.{Stored, EnergyKept, DemandKept, Runni
 use Rattle.assurance.proofs.Rooms.{closed-values, closed-marks, closed-flags, opened-values, opened-marks, opened-flags, new-values, new-marks, new-flags}
 
 -- the difference modulo 10,000 is the units passed, if they are at most 9,999
-pub advance-of : (a b x y : ℕ) → a ≡ x % 10000 → b ≡ y % 10000 → y ≤ x → x - y ≤ mostUnits → advance b a ≡ x - y
-advance-of a b x y p q up slow = rw (p, q, mod-mod x 10000, mod-mod y 10000) (round-less 10000 x y up (omega arith))
+pub advance-of : (a b x y : ℕ) → a ≡ x % valueRound → b ≡ y % valueRound → y ≤ x → x - y ≤ mostUnits → advance b a ≡ x - y
+advance-of a b x y p q up slow = rw (p, q, mod-mod x valueRound, mod-mod y valueRound) (round-less valueRound x y up (omega arith))
 
 -- the largest takes one more
 largest-on : (f : ℕ → ℕ) (from q : ℕ) → from ≤ q → largest f from (suc q - from) ≡ max (largest f from (q - from)) (f q)
@@ -41,7 +41,7 @@ largest-on f from q l =
 -- ---- the store
 
 module _ (s : SetUp) (p : Tape) (q : ℕ) (x : Store) (a w : ℕ) (b c : Bool) (g : StoreKept s p q x)
-    (ea : a ≡ totalAt s (p .counts) (suc q) / 10 % 10000) (eb : b ≡ p .marks .reverse q) (ec : c ≡ p .marks .level2 q) where
+    (ea : a ≡ valueAt (totalAt s (p .counts) (suc q))) (eb : b ≡ p .marks .reverse q) (ec : c ≡ p .marks .level2 q) where
   abbrev y : Store
   y = closed (capOf s) q a b c x
 
@@ -61,7 +61,7 @@ module _ (s : SetUp) (p : Tape) (q : ℕ) (x : Store) (a w : ℕ) (b c : Bool) (
   }
 
   -- at midnight the next day opens
-  module _ (mid : suc q % 48 ≡ 0) (ew : w ≡ totalAt s (p .counts) (suc q) / 10 % 100000000) (ef : flagsOf (p .flags) (suc q / 48) ≡ 0) where
+  module _ (mid : suc q % 48 ≡ 0) (ew : w ≡ readingAt (totalAt s (p .counts) (suc q))) (ef : flagsOf (p .flags) (suc q / 48) ≡ 0) where
     abbrev e : ℕ
     e = suc q / 48
 
@@ -95,7 +95,7 @@ module _ (s : SetUp) (p : Tape) (q : ℕ) (x : Store) (a w : ℕ) (b c : Bool) (
     }
 
 pub turned-kept : (s : SetUp) (p : Tape) (q : ℕ) (x : Store) (a w : ℕ) (b c : Bool) → StoreKept s p q x
-    → a ≡ totalAt s (p .counts) (suc q) / 10 % 10000 → w ≡ totalAt s (p .counts) (suc q) / 10 % 100000000
+    → a ≡ valueAt (totalAt s (p .counts) (suc q)) → w ≡ readingAt (totalAt s (p .counts) (suc q))
     → b ≡ p .marks .reverse q → c ≡ p .marks .level2 q → ((d : ℕ) → q / 48 < d → flagsOf (p .flags) d ≡ 0)
     → StoreKept s p (suc q) (turned (capOf s) q a w b c x)
 unfolding turned
@@ -114,17 +114,17 @@ module _ (s : SetUp) (p : Tape) (q : ℕ) (x : Mem) (g : KeptAt s p q x) where
   abbrev r : Recorder
   r = x .recorder
 
-  value-is : lastFour (readingNow r) .0 ≡ totalAt s (p .counts) (suc q) / 10 % 10000
+  value-is : lastFour (readingNow r) .0 ≡ valueAt (totalAt s (p .counts) (suc q))
   value-is = omega (arith, g .energy .total)
 
-  reading-is : readingNow r .0 ≡ totalAt s (p .counts) (suc q) / 10 % 100000000
+  reading-is : readingNow r .0 ≡ readingAt (totalAt s (p .counts) (suc q))
   reading-is = omega (arith, g .energy .total)
 
   -- the advance modulo 10,000 is the units of the half-hour
   demand-is : demandSince (r .running .base) (r .energy) .0 ≡ 2 * unitsOf s (p .counts) q
   unfolding unitsOf
   demand-is =
-      let e = advance-of (lastFour (readingNow r) .0) (r .running .base .0 % 10000) (totalAt s (p .counts) (suc q) / 10) (totalAt s (p .counts) q / 10)
+      let e = advance-of (lastFour (readingNow r) .0) (r .running .base .0 % valueRound) (totalAt s (p .counts) (suc q) / unitOf) (totalAt s (p .counts) q / unitOf)
       value-is (omega (arith, g .running .base)) (omega (arith, g .energy .up q)) (g .energy .slow q) in
       omega (arith, g .energy .slow q)
 
@@ -133,7 +133,7 @@ module _ (s : SetUp) (p : Tape) (q : ℕ) (x : Mem) (g : KeptAt s p q x) where
     up = e .up;
     slow = e .slow;
     flat = λ h l. e .flat h (omega arith) ∙ sym (e .flat (suc (suc q)) (omega arith));
-    total = e .total ∙ ap (λ (n : ℕ). n % 1000000000) (sym (e .flat (suc (suc q)) (omega arith)));
+    total = e .total ∙ ap (λ (n : ℕ). n % totalRound) (sym (e .flat (suc (suc q)) (omega arith)));
     rates-long = e .rates-long;
     rates = e .rates;
     rate-low = e .rate-low;

@@ -1,6 +1,6 @@
 -- Count: the energy goes to the total, to a rate's register and to the paper, and no half-hour that has ended moves.
 -- Assumes nothing.
-use Prim.Native.Nat.{ℕ, zero, suc, _+_, _-_, _*_, _/_, _%_, _<_, _≤_}
+use Prim.Native.Nat.{ℕ, zero, suc, _+_, _-_, _*_, _%_, _<_, _≤_}
 use mathlib.Core.Path.{_≡_, refl, sym, ap, _∙_}
 use mathlib.Core.List.{List}
 use native.Mathlib.Decide.{ℕ-discrete, decLt}
@@ -10,7 +10,7 @@ use lib.Seq.{getD-set-other, getD-set-same}
 use borrow.Author.Tests.{lt-ltb, le-ltb, eq-eqb, ne-eqb}
 use Rattle.laws.proofs.Split.{by-dec}
 use Rattle.quantity.specs.declared.WattHours.{WattHours}
-use Rattle.quantity.specs.Units.{energySum}
+use Rattle.quantity.specs.Units.{totalRound, unitsFrom, energySum}
 use Rattle.registers.specs.declared.Energy.{Energy}
 use Rattle.registers.specs.Energy.{noEnergy, addedOf, energyCounted}
 use Rattle.recorder.specs.declared.SetUp.{SetUp}
@@ -56,7 +56,7 @@ module _ (s : SetUp) (p : Tape) (q i w : ℕ) where
         (λ z. rw (z, total-kept q (omega arith), total-more (suc q) (omega arith)) (omega (arith, g .up q)))
         (λ z. rw (total-kept h (omega arith), total-kept (suc h) (omega arith)) (g .up h)))
 
-    slow-count : (totalAt s c (suc q) + w) / 10 - totalAt s c q / 10 ≤ mostUnits → (h : ℕ) → unitsOf s c′ h ≤ mostUnits
+    slow-count : unitsFrom (totalAt s c q) (totalAt s c (suc q) + w) ≤ mostUnits → (h : ℕ) → unitsOf s c′ h ≤ mostUnits
     unfolding unitsOf
     slow-count few h =
         by-dec (decLt q h)
@@ -69,12 +69,12 @@ module _ (s : SetUp) (p : Tape) (q i w : ℕ) where
     flat-count h l = total-more h l ∙ ap (λ (n : ℕ). n + w) (g .flat h l) ∙ sym (total-more (suc q) (omega arith))
 
 -- registers that run round
-sum-of : (a b w : ℕ) → a ≡ b % 1000000000 → (a + w) % 1000000000 ≡ (b + w) % 1000000000
+sum-of : (a b w : ℕ) → a ≡ b % totalRound → (a + w) % totalRound ≡ (b + w) % totalRound
 sum-of a b w e = omega arith
 
 rates-count : (rs : List WattHours) (f : ℕ → ℕ) (i : ℕ) (w : WattHours) → length rs ≡ 8 → i < 8
-    → ((j : ℕ) → j < 8 → getD rs j noEnergy .0 ≡ f j % 1000000000)
-    → (j : ℕ) → j < 8 → getD (set rs i (energySum (getD rs i noEnergy) w)) j noEnergy .0 ≡ addAt i (w .0) f j % 1000000000
+    → ((j : ℕ) → j < 8 → getD rs j noEnergy .0 ≡ f j % totalRound)
+    → (j : ℕ) → j < 8 → getD (set rs i (energySum (getD rs i noEnergy) w)) j noEnergy .0 ≡ addAt i (w .0) f j % totalRound
 unfolding addAt
 rates-count rs f i w long li g j l =
     by-dec (ℕ-discrete j i)
@@ -87,7 +87,7 @@ rates-count rs f i w long li g j l =
     (ap (λ (a : WattHours). a .0) (getD-set-other rs i j (energySum (getD rs i noEnergy) w) noEnergy ne)
     ∙ g j l ∙ none (f j)))
   where
-    none : (b : ℕ) → b % 1000000000 ≡ (b + 0) % 1000000000
+    none : (b : ℕ) → b % totalRound ≡ (b + 0) % totalRound
     none b = omega arith
 
 -- Count(c) in half-hour q
@@ -102,7 +102,7 @@ module _ (s : SetUp) (p : Tape) (q n : ℕ) (x : Mem) (g : KeptAt s p q x) where
   abbrev i : ℕ
   i = e .rate - 1
 
-  pub count-kept : (totalAt s (p .counts) (suc q) + more .0) / 10 - totalAt s (p .counts) q / 10 ≤ mostUnits
+  pub count-kept : unitsFrom (totalAt s (p .counts) q) (totalAt s (p .counts) (suc q) + more .0) ≤ mostUnits
       → KeptAt s (counted q i (more .0) p) q (with x (effect.counted n (x .recorder)))
   unfolding energyCounted
   count-kept few = record {

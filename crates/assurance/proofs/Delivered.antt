@@ -27,7 +27,7 @@ use Rattle.days.specs.Desk.{Desk, Filed, dayIn, fresh, heldIn}
 use Rattle.days.specs.Desk as desk
 use Rattle.days.specs.Told.{AllHonest, untaken}
 use Rattle.days.specs.Told as told
-use Rattle.days.specs.Energy.{Steady, Metered, Unbroken, advances, Close}
+use Rattle.days.specs.Energy.{Steady, Metered, Unbroken, advances, Within, Close}
 use Rattle.days.proofs.Fold.{reaches, cuts, fit-blocks, run-fresh}
 use Rattle.ledger.specs.Layout.{lengthOf, firstOf, daysOf}
 use Rattle.ledger.specs.Rooms.{slot, pack}
@@ -349,7 +349,7 @@ module _ (s : SetUp) (x : Store) (cs : List Call) (accepted : setUp s x .answer 
     held-is d = rw (filed-is, first-is, days-is, window-is .0, window-is .1)
 
     energy : (q n : ℕ) → Unbroken (heldOn (filed s x cs l first days bs)) q n
-        → (10 * advances (heldOn (filed s x cs l first days bs)) q n ≤ counted s x cs q n + 9) × (counted s x cs q n ≤ 10 * advances (heldOn (filed s x cs l first days bs)) q n + 9)
+        → Within (advances (heldOn (filed s x cs l first days bs)) q n) (counted s x cs q n)
     energy q n u =
         let y = dayIn D (desk.run D (fresh D) bs .ledger) in
         let same : y ≡ heldOn (filed s x cs l first days bs) = fun-ext held-is in

@@ -1,6 +1,6 @@
 -- Every block of a run is honest: what it says of a day that it carries is what the history says, at the time of reading and at any later one.
 -- Assumes nothing.
-use Prim.Native.Nat.{ℕ, suc, _+_, _-_, _*_, _/_, _%_, _<_, _≤_}
+use Prim.Native.Nat.{ℕ, suc, _+_, _-_, _*_, _%_, _<_, _≤_}
 use mathlib.Core.Path.{_≡_, refl, sym, ap, _∙_}
 use mathlib.Core.Bool.{Bool, false, cond}
 use mathlib.Core.List.{List}
@@ -11,7 +11,7 @@ use borrow.Author.Tests.{lt-ltb}
 use Rattle.laws.specs.Bits.{bitAt}
 use Rattle.laws.proofs.Bits.{bit-packed}
 use Rattle.laws.proofs.Table.{length-table}
-use Rattle.quantity.specs.Units.{wattHours, kwhOf}
+use Rattle.quantity.specs.Units.{totalRound, wattHours, readingAt, valueAt, kwhOf}
 use Rattle.calendar.specs.Clock.{endedOn}
 use Rattle.format.specs.Numbers.{binary, numAt}
 use Rattle.block.specs.Header.{headGiven}
@@ -40,12 +40,12 @@ module _ (s : SetUp) (p u : Paper) (a : Past s p u) where
 
   start-stays : (d : ℕ) → 48 * d ≤ now p → was .start d ≡ is .start d
   unfolding historyOf
-  start-stays d l = ap (λ (e : ℕ). e / 10 % 100000000) (sym (a .total (48 * d) l))
+  start-stays d l = ap readingAt (sym (a .total (48 * d) l))
 
   half-stays : (d j : ℕ) → 48 * d + suc j ≤ now p → was .half d j ≡ is .half d j
   unfolding historyOf
   half-stays d j l = λ i. record {
-    value = (ap (λ (e : ℕ). e / 10 % 10000) (sym (a .total (48 * d + suc j) l))) i;
+    value = (ap valueAt (sym (a .total (48 * d + suc j) l))) i;
     reverse = sym (a .reverse (48 * d + j) (omega arith)) i;
     level2 = sym (a .level2 (48 * d + j) (omega arith)) i;
   }
@@ -71,7 +71,7 @@ module _ (s : SetUp) (z : Given s) (p : Paper) (x : Mem) (k : Kept s p x) (asked
 
   eight : length (headerDue s p .rates) ≡ 8
   unfolding headerDue
-  eight = length-table 8 (λ i. kwhOf (wattHours (p .tape .counts .rate i % 1000000000)))
+  eight = length-table 8 (λ i. kwhOf (wattHours (p .tape .counts .rate i % totalRound)))
 
   pub ident-due : identIn vs ≡ numAt binary (s .identifier) 0 12
   unfolding headIn fieldsDue given headGiven headerDue

@@ -7,6 +7,7 @@ use mathlib.Core.List.{List}
 use native.Mathlib.Omega.{arith}
 use lib.ListN.{length, getD}
 use Rattle.laws.specs.Bits.{packBits}
+use Rattle.quantity.specs.Units.{totalRound, demandRound, readingAt, valueAt}
 use Rattle.format.specs.Identifier.{identOk}
 use Rattle.store.specs.Class.{daysOf}
 use Rattle.store.specs.Store.{Store, Fits}
@@ -14,7 +15,8 @@ use Rattle.registers.specs.declared.Energy.{Energy}
 use Rattle.registers.specs.declared.Demand.{Demand}
 use Rattle.registers.specs.declared.Present.{Present}
 use Rattle.registers.specs.declared.Running.{Running}
-use Rattle.registers.specs.Energy.{noEnergy}
+use Rattle.registers.specs.Demand.{countRound}
+use Rattle.registers.specs.Energy.{leastWeight, mostWeight, noEnergy}
 use Rattle.recorder.specs.declared.SetUp.{SetUp}
 use Rattle.recorder.specs.declared.Identity.{Identity}
 use Rattle.recorder.specs.Recorder.{Mem}
@@ -34,10 +36,10 @@ identityOf s = record { identifier = s .identifier; class = s .class; weight = s
 pub record Given (s : SetUp) : Type 0 where
   pub identifier : identOk (s .identifier) 0 ≡ true
   pub some : 0 < capOf s
-  pub weight-low : 1 ≤ s .weight .0
-  pub weight-high : s .weight .0 ≤ 100
+  pub weight-low : leastWeight ≤ s .weight .0
+  pub weight-high : s .weight .0 ≤ mostWeight
   pub time : s .time < 3155760000
-  pub total : s .total .0 < 1000000000
+  pub total : s .total .0 < totalRound
 
 -- the half-hours of day d that have ended as half-hour q runs; and a day's marks
 abbrev pub reached : ℕ → ℕ → ℕ
@@ -59,9 +61,9 @@ pub record EnergyKept (s : SetUp) (c : Counts) (q : ℕ) (e : Energy) : Type 0 w
   pub up : (h : ℕ) → totalAt s c h ≤ totalAt s c (suc h)
   pub slow : (h : ℕ) → unitsOf s c h ≤ mostUnits
   pub flat : (h : ℕ) → q < h → totalAt s c h ≡ totalAt s c (suc q)
-  pub total : e .total .0 ≡ totalAt s c (suc q) % 1000000000
+  pub total : e .total .0 ≡ totalAt s c (suc q) % totalRound
   pub rates-long : length (e .rates) ≡ 8
-  pub rates : (i : ℕ) → i < 8 → getD (e .rates) i noEnergy .0 ≡ c .rate i % 1000000000
+  pub rates : (i : ℕ) → i < 8 → getD (e .rates) i noEnergy .0 ≡ c .rate i % totalRound
   pub rate-low : 1 ≤ e .rate
   pub rate-high : e .rate ≤ 8
 
@@ -69,16 +71,16 @@ pub record DemandKept (s : SetUp) (c : Counts) (p : Demands) (q : ℕ) (d : Dema
   pub since : p .since ≤ q
   pub current : d .current .0 ≡ peakOf s c (p .since) q
   pub previous : d .previous .0 ≡ p .previous
-  pub previous-few : p .previous < 1000000
-  pub cumulative : d .cumulative .0 ≡ p .cumulative % 1000000
+  pub previous-few : p .previous < demandRound
+  pub cumulative : d .cumulative .0 ≡ p .cumulative % demandRound
   pub reset : d .reset ≡ p .date
   pub date : p .date ≤ 36525
-  pub count : d .count ≡ p .resets % 100
+  pub count : d .count ≡ p .resets % countRound
   pub never : p .date ≡ 0 → p .resets ≡ 0
 
 -- nothing is marked of what is to come
 pub record RunningKept (s : SetUp) (c : Counts) (m : Marks) (q : ℕ) (r : Running) : Type 0 where
-  pub base : r .base .0 ≡ totalAt s c q / 10 % 100000000
+  pub base : r .base .0 ≡ readingAt (totalAt s c q)
   pub reverse : r .reverse ≡ m .reverse q
   pub level2 : r .level2 ≡ m .level2 q
   pub no-reverse : (h : ℕ) → q < h → m .reverse h ≡ false
@@ -92,8 +94,8 @@ pub record ClockKept (s : SetUp) (q : ℕ) (c : Present) : Type 0 where
 -- ---- the store: room r has day d, of which k half-hours have ended
 
 pub record ValuesKept (s : SetUp) (c : Counts) (d k r : ℕ) (values starts : List ℕ) : Type 0 where
-  pub start : getD starts r 0 ≡ totalAt s c (48 * d) / 10 % 100000000
-  pub value : (j : ℕ) → j < k → getD values (r * 48 + j) 0 ≡ totalAt s c (48 * d + suc j) / 10 % 10000
+  pub start : getD starts r 0 ≡ readingAt (totalAt s c (48 * d))
+  pub value : (j : ℕ) → j < k → getD values (r * 48 + j) 0 ≡ valueAt (totalAt s c (48 * d + suc j))
 
 pub record MarksKept (m : Marks) (d k r : ℕ) (words : List ℕ) : Type 0 where
   pub reverse : getD words (r * 3) 0 ≡ packBits k (ofDay (m .reverse) d)

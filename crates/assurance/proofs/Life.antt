@@ -17,7 +17,7 @@ use Rattle.laws.proofs.Bools.{iff-trans}
 use Rattle.laws.proofs.Round.{sum-round}
 use Rattle.laws.proofs.Split.{by-dec}
 use Rattle.laws.proofs.Tests.{sum-same}
-use Rattle.quantity.specs.Units.{totalRound, demandRound}
+use Rattle.quantity.specs.Units.{unitOf, totalRound, readingRound, valueRound, demandRound, readingAt, valueAt}
 use Rattle.profile.specs.Profile.{beforeAt, advanceAt}
 use Rattle.store.specs.Class.{daysOf}
 use Rattle.store.specs.Store.{Store}
@@ -127,19 +127,19 @@ module _ (s : SetUp) (x : Store) (es : List Event) (accepted : setUp s x .answer
   unfolding unitsOf
   units-are q = rw (total-is (suc q), total-is q)
 
-  total-told : y .recorder .energy .total .0 ≡ (s .total .0 + countedIn s (blankPaper s) es) % 1000000000
+  total-told : y .recorder .energy .total .0 ≡ (s .total .0 + countedIn s (blankPaper s) es) % totalRound
   total-told =
       k .at .energy .total
-      ∙ ap (λ (n : ℕ). n % 1000000000)
+      ∙ ap (λ (n : ℕ). n % totalRound)
       (total-is (suc (now p)) ∙ ap (λ (n : ℕ). s .total .0 + n) (all-before s (suc (now p)) (blankPaper s) es (omega arith)))
 
-  rates-told : (s .total .0 + sumBelow (λ i. getD (y .recorder .energy .rates) i noEnergy .0) 8) % 1000000000 ≡ y .recorder .energy .total .0
+  rates-told : (s .total .0 + sumBelow (λ i. getD (y .recorder .energy .rates) i noEnergy .0) 8) % totalRound ≡ y .recorder .energy .total .0
   unfolding blankTape sumBelow
   rates-told =
-      ap (λ (n : ℕ). (s .total .0 + n) % 1000000000)
-      (sum-same (λ i. getD (y .recorder .energy .rates) i noEnergy .0) (λ i. c .rate i % 1000000000) 8 (k .at .energy .rates))
-      ∙ sum-round 1000000000 (c .rate) 8 (s .total .0)
-      ∙ ap (λ (n : ℕ). (s .total .0 + n) % 1000000000) (rates-are s z es (blankPaper s) (made s) (made-kept s z) ∙ zero-add (countedIn s (blankPaper s) es))
+      ap (λ (n : ℕ). (s .total .0 + n) % totalRound)
+      (sum-same (λ i. getD (y .recorder .energy .rates) i noEnergy .0) (λ i. c .rate i % totalRound) 8 (k .at .energy .rates))
+      ∙ sum-round totalRound (c .rate) 8 (s .total .0)
+      ∙ ap (λ (n : ℕ). (s .total .0 + n) % totalRound) (rates-are s z es (blankPaper s) (made s) (made-kept s z) ∙ zero-add (countedIn s (blankPaper s) es))
       ∙ sym total-told
 
   cleared : Told (unitsIn s x es) (blankTape s .demands) (p .tape .demands) (resets s x es)
@@ -160,21 +160,21 @@ module _ (s : SetUp) (x : Store) (es : List Event) (accepted : setUp s x .answer
       ∙ ap (λ (n : ℕ). n % totalRound) (register-is s z i es (blankPaper s) (made s) (made-kept s z) ∙ zero-add (countedAt s (suc i) 1 (blankPaper s) es))
 
   module _ (d : ℕ) where
-    start-told : past s x es .start d ≡ totalAt s c (48 * d) / 10 % 100000000
+    start-told : past s x es .start d ≡ readingAt (totalAt s c (48 * d))
     unfolding historyOf
     start-told = refl
 
-    value-told : (j : ℕ) → past s x es .half d j .value ≡ totalAt s c (48 * d + suc j) / 10 % 10000
+    value-told : (j : ℕ) → past s x es .half d j .value ≡ valueAt (totalAt s c (48 * d + suc j))
     unfolding historyOf
     value-told j = refl
 
-    before-told : (j : ℕ) → beforeAt (past s x es .start d) (λ i. past s x es .half d i .value) j ≡ totalAt s c (48 * d + j) / 10 % 10000
+    before-told : (j : ℕ) → beforeAt (past s x es .start d) (λ i. past s x es .half d i .value) j ≡ valueAt (totalAt s c (48 * d + j))
     unfolding beforeAt
     before-told zero =
         let e : 48 * d + 0 ≡ 48 * d = omega arith in
-        rw e (ap (λ (n : ℕ). n % 10000) start-told ∙ low (totalAt s c (48 * d) / 10))
+        rw e (ap (λ (n : ℕ). n % valueRound) start-told ∙ low (totalAt s c (48 * d) / unitOf))
       where
-        low : (n : ℕ) → n % 100000000 % 10000 ≡ n % 10000
+        low : (n : ℕ) → n % readingRound % valueRound ≡ n % valueRound
         low n = omega arith
     before-told (suc j) = value-told j
 
@@ -182,7 +182,7 @@ module _ (s : SetUp) (x : Store) (es : List Event) (accepted : setUp s x .answer
     unfolding advanceAt unitsOf
     advance-told j =
         let next : 48 * d + suc j ≡ suc (48 * d + j) = omega arith in
-        advance-of _ _ (totalAt s c (48 * d + suc j) / 10) (totalAt s c (48 * d + j) / 10) (value-told j) (before-told j)
+        advance-of _ _ (totalAt s c (48 * d + suc j) / unitOf) (totalAt s c (48 * d + j) / unitOf) (value-told j) (before-told j)
         (rw next (omega (arith, k .at .energy .up (48 * d + j)))) (rw next (k .at .energy .slow (48 * d + j)))
         ∙ rw next
 
@@ -201,8 +201,8 @@ module _ (s : SetUp) (x : Store) (es : List Event) (accepted : setUp s x .answer
     cumulative = k .at .demand .cumulative ∙ ap (λ (n : ℕ). n % demandRound) (cleared .cumulative ∙ zero-add _);
     date = k .at .demand .reset ∙ cleared .date;
     count = k .at .demand .count ∙ ap (λ (n : ℕ). n % countRound) (cleared .resets ∙ zero-add _);
-    start = λ d. let e : 48 * d + 0 ≡ 48 * d = omega arith in rw e (start-told d ∙ ap (λ (n : ℕ). n / 10 % 100000000) (total-is (48 * d)));
-    value = λ d j. value-told d j ∙ ap (λ (n : ℕ). n / 10 % 10000) (total-is (48 * d + suc j));
+    start = λ d. let e : 48 * d + 0 ≡ 48 * d = omega arith in rw e (start-told d ∙ ap readingAt (total-is (48 * d)));
+    value = λ d j. value-told d j ∙ ap valueAt (total-is (48 * d + suc j));
     few = λ q. omega (arith, units-are q, k .at .energy .slow q);
     advance = λ d j. advance-told d j ∙ units-are (48 * d + j);
     reverse = λ d j. reverse-exactly s es (48 * d + j);

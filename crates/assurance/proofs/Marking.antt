@@ -11,7 +11,9 @@ use borrow.Author.Tests.{eq-eqb, ne-eqb}
 use Rattle.laws.proofs.Bools.{or-none, or-some}
 use Rattle.laws.proofs.Ring.{ring-apart}
 use Rattle.laws.proofs.Split.{by-dec}
+use Rattle.quantity.specs.Units.{demandRound}
 use Rattle.store.specs.Store.{store, flagAt}
+use Rattle.registers.specs.Demand.{countRound}
 use Rattle.recorder.specs.declared.SetUp.{SetUp}
 use Rattle.recorder.specs.declared.Recorder.{Recorder}
 use Rattle.recorder.specs.Recorder.{Mem, with}
@@ -214,10 +216,10 @@ module _ (s : SetUp) (p : Tape) (q : ℕ) (x : Mem) (g : KeptAt s p q x) where
     store = record { fits = g .store .fits; values = g .store .values; marks = g .store .marks; flags = g .store .flags };
   }
     where
-      sum : (a b c e : ℕ) → a ≡ b % 1000000 → c ≡ e → (a + c) % 1000000 ≡ (b + e) % 1000000
+      sum : (a b c e : ℕ) → a ≡ b % demandRound → c ≡ e → (a + c) % demandRound ≡ (b + e) % demandRound
       sum a b c e p1 p2 = omega arith
 
-      one-more : (a b : ℕ) → a ≡ b % 100 → (a + 1) % 100 ≡ (b + 1) % 100
+      one-more : (a b : ℕ) → a ≡ b % countRound → (a + 1) % countRound ≡ (b + 1) % countRound
       one-more a b p1 = omega arith
 
   pub reset-kept : x .recorder .clock .time < 3155760000 → KeptAt s (resetOn q (q / 48) peak p) q (flagToday 32 (with x (wasReset (x .recorder))))

@@ -14,6 +14,7 @@ use Rattle.laws.specs.Bits.{packBits}
 use Rattle.laws.proofs.Bits.{packed-same}
 use Rattle.laws.proofs.Ring.{ring-apart, other-room, other-place, this-place}
 use Rattle.laws.proofs.Split.{by-dec}
+use Rattle.quantity.specs.Units.{readingAt, valueAt}
 use Rattle.marks.specs.Marks.{taken}
 use Rattle.marks.proofs.Laws.{taken-packed}
 use Rattle.store.specs.Store.{Store, Fits, pushAt, closed, opened, flagAt}
@@ -42,7 +43,7 @@ module _ (s : SetUp) (q : ℕ) (x : Store) (f : Fits (capOf s) x) (a : ℕ) (b c
   apart : d < q / 48 → r ≡ e → ⊥
   apart l = ring-apart (capOf s) d (q / 48) l (i .near)
 
-  pub closed-values : (p : Counts) → a ≡ totalAt s p (suc q) / 10 % 10000 → ValuesKept s p d (reached q d) r (x .values) (x .starts)
+  pub closed-values : (p : Counts) → a ≡ valueAt (totalAt s p (suc q)) → ValuesKept s p d (reached q d) r (x .values) (x .starts)
       → ValuesKept s p d (reached (suc q) d) r (y .values) (y .starts)
   unfolding closed
   closed-values p ea g =
@@ -126,7 +127,7 @@ module _ (cap : ℕ) (x : Store) (f : Fits cap x) (d a : ℕ) where
   abbrev o : ℕ
   o = d % cap
 
-  pub new-values : (s : SetUp) (p : Counts) → a ≡ totalAt s p (48 * d) / 10 % 100000000 → ValuesKept s p d 0 o (n .values) (n .starts)
+  pub new-values : (s : SetUp) (p : Counts) → a ≡ readingAt (totalAt s p (48 * d)) → ValuesKept s p d 0 o (n .values) (n .starts)
   unfolding opened
   new-values s p ea =
       record { start = getD-set-same (x .starts) o a 0 (omega (arith, mod-lt d (f .some), f .starts)) ∙ ea; value = λ j l. absurd (omega arith) }

@@ -10,6 +10,7 @@ use borrow.Author.Tests.{leb-true, ltb-true, ltb-false, eqb-true, eq-eqb, not-fa
 use Rattle.laws.proofs.Bools.{both}
 use Rattle.laws.proofs.Checks.{NoneFails, none-fails}
 use Rattle.laws.proofs.Split.{by-test}
+use Rattle.quantity.specs.Units.{unitsFrom}
 use Rattle.store.specs.Store.{Store}
 use Rattle.registers.specs.declared.Energy.{Energy}
 use Rattle.registers.specs.Energy.{addedOf, energyCounted, rateOk}
@@ -42,7 +43,7 @@ module _ (s : SetUp) (p : Paper) where
   unfolding due eventAnswer
   none e d = none-fails (eventChecks (p .on) (p .time) (unitsWith s p) e) refl d
 
-  few : (c : ℕ) → due s p (Count c) ≡ 0 → (totalAt s (p .tape .counts) (suc (now p)) + energyOf s p c) / 10 - totalAt s (p .tape .counts) (now p) / 10 ≤ mostUnits
+  few : (c : ℕ) → due s p (Count c) ≡ 0 → unitsFrom (totalAt s (p .tape .counts) (now p)) (totalAt s (p .tape .counts) (suc (now p)) + energyOf s p c) ≤ mostUnits
   unfolding unitsWith
   few c d = ltb-false mostUnits _ (none (Count c) d .1 .1 .1 .0)
 

@@ -12,6 +12,7 @@ use Rattle.laws.specs.Bits.{packBits}
 use Rattle.laws.proofs.Bits.{packed-same}
 use Rattle.laws.proofs.Split.{by-dec}
 use Rattle.laws.proofs.Table.{table-same}
+use Rattle.quantity.specs.Units.{valueRound}
 use Rattle.calendar.specs.Calendar.{dateOf}
 use Rattle.calendar.specs.Clock.{endedAt, endedOn}
 use Rattle.calendar.specs.Digits.{dateDigits}
@@ -85,7 +86,7 @@ module _ (s : SetUp) (p : Paper) (d k r : ℕ) (x : Store) (few : k ≤ 48) (v :
 
   fill-due : (n : ℕ) → n ≤ k → beforeAt (getD (x .starts) r 0) (valuesFrom (x .values) (r * 48)) n ≡ beforeAt (h .start d) (λ i. h .half d i .value) n
   unfolding beforeAt
-  fill-due zero l = ap (λ (a : ℕ). a % 10000) start-due
+  fill-due zero l = ap (λ (a : ℕ). a % valueRound) start-due
   fill-due (suc n) l = value-due n l
 
   sent-due : (j : ℕ) → valueSent (x .values) (r * 48) (getD (x .starts) r 0) k j ≡ dayDue h k d .value j

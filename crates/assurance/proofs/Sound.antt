@@ -16,7 +16,7 @@ use Rattle.laws.proofs.Bools.{both}
 use Rattle.laws.proofs.Split.{by-dec}
 use Rattle.laws.proofs.Table.{length-table, table-at}
 use Rattle.laws.proofs.Tests.{allTrue-of, all-of}
-use Rattle.quantity.specs.Units.{wattHours, kilowattHours, kwhOf}
+use Rattle.quantity.specs.Units.{unitOf, kwhOfUnit, totalRound, readingRound, valueRound, wattHours, kilowattHours, readingAt, valueAt, kwhOf}
 use Rattle.calendar.specs.Clock.{endedAt, endedOn}
 use Rattle.profile.specs.Profile.{endReading, valuesFrom}
 use Rattle.profile.proofs.Laws.{Readings, readingBefore, sum-agree, sum-of-readings}
@@ -36,6 +36,7 @@ use Rattle.judgement.proofs.Head.{six-is, totals-are, rateFits, rates-all, head
 use Rattle.judgement.proofs.Places.{rate-at}
 use Rattle.judgement.proofs.Writable.{taken-filled}
 use Rattle.store.specs.Store.{Store}
+use Rattle.registers.specs.Demand.{countRound}
 use Rattle.recorder.specs.declared.SetUp.{SetUp}
 use Rattle.recorder.specs.Recorder.{Mem}
 use Rattle.recorder.specs.Cause.{mostUnits}
@@ -51,19 +52,19 @@ use Rattle.assurance.proofs.Sending.{ended-reached, ringOf, stored, roo
 
 module _ (s : SetUp) (c : Counts) (up : (h : ℕ) → totalAt s c h ≤ totalAt s c (suc h)) (slow : (h : ℕ) → unitsOf s c h ≤ mostUnits) (d : ℕ) where
   abbrev reading : ℕ → ℕ
-  reading j = totalAt s c (48 * d + suc j) / 10 % 100000000
+  reading j = readingAt (totalAt s c (48 * d + suc j))
 
   abbrev first : ℕ
-  first = totalAt s c (48 * d) / 10 % 100000000
+  first = readingAt (totalAt s c (48 * d))
 
-  units-at : (h : ℕ) → totalAt s c (suc h) / 10 ≡ totalAt s c h / 10 + unitsOf s c h
+  units-at : (h : ℕ) → totalAt s c (suc h) / unitOf ≡ totalAt s c h / unitOf + unitsOf s c h
   unfolding unitsOf
   units-at h = omega (arith, up h)
 
-  next-of : (a b n : ℕ) → b ≡ a + n → b % 100000000 ≡ (a % 100000000 + n) % 100000000
+  next-of : (a b n : ℕ) → b ≡ a + n → b % readingRound ≡ (a % readingRound + n) % readingRound
   next-of a b n e = omega arith
 
-  before-of : (j : ℕ) → readingBefore first reading j ≡ totalAt s c (48 * d + j) / 10 % 100000000
+  before-of : (j : ℕ) → readingBefore first reading j ≡ readingAt (totalAt s c (48 * d + j))
   unfolding readingBefore
   before-of zero = let e : 48 * d + 0 ≡ 48 * d = omega arith in rw e
   before-of (suc j) = refl
@@ -73,19 +74,19 @@ module _ (s : SetUp) (c : Counts) (up : (h : ℕ) → totalAt s c h ≤ totalAt 
     small = λ j l. omega (arith, slow (48 * d + j));
     next = λ j l.
         let e : 48 * d + suc j ≡ suc (48 * d + j) = omega arith in
-        rw (before-of j, e) (next-of (totalAt s c (48 * d + j) / 10) (totalAt s c (suc (48 * d + j)) / 10) (unitsOf s c (48 * d + j)) (units-at (48 * d + j)));
+        rw (before-of j, e) (next-of (totalAt s c (48 * d + j) / unitOf) (totalAt s c (suc (48 * d + j)) / unitOf) (unitsOf s c (48 * d + j)) (units-at (48 * d + j)));
   }
 
-  low-of : (n : ℕ) → n % 100000000 % 10000 ≡ n % 10000
+  low-of : (n : ℕ) → n % readingRound % valueRound ≡ n % valueRound
   low-of n = omega arith
 
   -- the start and the advances of a whole day, as sent, are the next day's start
-  pub leads-on : (x : DayRecord) → x .start ≡ first → ((j : ℕ) → j < 48 → x .value j ≡ totalAt s c (48 * d + suc j) / 10 % 10000)
-      → endReading (x .start) (x .value) ≡ totalAt s c (48 * suc d) / 10 % 100000000
+  pub leads-on : (x : DayRecord) → x .start ≡ first → ((j : ℕ) → j < 48 → x .value j ≡ valueAt (totalAt s c (48 * d + suc j)))
+      → endReading (x .start) (x .value) ≡ readingAt (totalAt s c (48 * suc d))
   unfolding endReading
   leads-on x a v =
       let e : 48 * d + 48 ≡ 48 * suc d = omega arith in
-      rw (a, sum-agree first (x .value) (λ j. reading j % 10000) 48 (λ j l. v j l ∙ sym (low-of (totalAt s c (48 * d + suc j) / 10))))
+      rw (a, sum-agree first (x .value) (λ j. reading j % valueRound) 48 (λ j l. v j l ∙ sym (low-of (totalAt s c (48 * d + suc j) / unitOf))))
       (sum-of-readings first reading (λ j. unitsOf s c (48 * d + j)) 48 steps ∙ rw (before-of 48, e) (omega arith))
 
 -- ---- the header
@@ -95,10 +96,10 @@ ident-fits id e =
     let a = both (goodAt binary id 0 12) (isIdentifier (numAt binary id 0 12)) (ident-ok id 0 ∙ e) in
     rw (lt-ltb (numAt binary id 0 12) (256 ^ 12) (num-lt binary id 0 12 (good-at binary id 0 12 (a .0)))) (a .1)
 
-small : (n : ℕ) → n < 1000000 → true ≡ okValue (digits 6) n
-small n l = sym (lt-ltb n 1000000 l) ∙ six-is n
+small : (n : ℕ) → n < 10 ^ 6 → true ≡ okValue (digits 6) n
+small n l = sym (lt-ltb n (10 ^ 6) l) ∙ six-is n
 
-never-counted : (date resets : ℕ) → (date ≡ 0 → resets ≡ 0) → (not (eqb date 0) || eqb (resets % 100) 0) ≡ true
+never-counted : (date resets : ℕ) → (date ≡ 0 → resets ≡ 0) → (not (eqb date 0) || eqb (resets % countRound) 0) ≡ true
 never-counted date resets e =
     by-dec (ℕ-discrete date 0)
     (λ z. rw (eq-eqb date 0 z, e z))
@@ -111,12 +112,12 @@ module _ (s : SetUp) (z : Given s) (p : Paper) (x : Mem) (k : Kept s p x) where
   abbrev c : Counts
   c = p .tape .counts
 
-  kwh-few : (n : ℕ) → n % 1000000000 / 1000 < 1000000
+  kwh-few : (n : ℕ) → n % totalRound / kwhOfUnit < 10 ^ 6
   kwh-few n = omega arith
 
   eight : length (h .rates) ≡ 8
   unfolding headerDue
-  eight = length-table 8 (λ i. kwhOf (wattHours (c .rate i % 1000000000)))
+  eight = length-table 8 (λ i. kwhOf (wattHours (c .rate i % totalRound)))
 
   totals-fit : okValues totalFields (totalsOf h) ≡ true
   unfolding headerDue
@@ -125,15 +126,15 @@ module _ (s : SetUp) (z : Given s) (p : Paper) (x : Mem) (k : Kept s p x) where
       let peak = largest-le (unitsOf s c) (p .tape .demands .since) (now p - p .tape .demands .since) (k .at .energy .slow) in
       sym (totals-are h true true true true (d .date)
       (small (h .kwh .0) (kwh-few (totalAt s c (suc (now p))))) (small (h .current .0) (omega arith)) (small (h .previous .0) (d .previous-few)) (small (h .cumulative .0) (omega arith)))
-      ∙ lt-ltb (p .tape .demands .resets % 100) 100 (omega arith)
+      ∙ lt-ltb (p .tape .demands .resets % countRound) countRound (omega arith)
 
   rates-fit : okValues rateFields (ratesOf h) ≡ true
   unfolding headerDue
   rates-fit =
       sym (rates-all (h .rates) 8 true eight
       (sym (all-of (rateFits (h .rates)) 8 (λ i l.
-      rw (rate-at (h .rates) i, table-at 8 (λ i. kwhOf (wattHours (c .rate i % 1000000000))) i (kilowattHours 0) l)
-      (sym (small (c .rate i % 1000000000 / 1000) (kwh-few (c .rate i)))))))
+      rw (rate-at (h .rates) i, table-at 8 (λ i. kwhOf (wattHours (c .rate i % totalRound))) i (kilowattHours 0) l)
+      (sym (small (c .rate i % totalRound / kwhOfUnit) (kwh-few (c .rate i)))))))
       (omega arith) (omega arith))
 
   pub head-fits : (n : ℕ) → n ≤ 450 → headFits h n ≡ true
@@ -151,7 +152,7 @@ module _ (s : SetUp) (p : Paper) (d k r : ℕ) (x : Store) (few : k ≤ 48) (v :
   room-fits =
       let t = p .tape in
       allTrue-of (dayTests (x .values) (x .starts) (x .marks) r k) (
-        lt-ltb (getD (x .starts) r 0) 100000000 (rw (v .start) (mod-lt (totalAt s (t .counts) (48 * d) / 10) {m = 100000000} (omega arith))),
+        lt-ltb (getD (x .starts) r 0) readingRound (rw (v .start) (mod-lt (totalAt s (t .counts) (48 * d) / unitOf) {m = readingRound} (omega arith))),
         (
           lt-ltb (getD (x .marks) (r * 3 + 2) 0) 256 (rw f (flags-few (t .flags) d)),
           (
@@ -162,7 +163,7 @@ module _ (s : SetUp) (p : Paper) (d k r : ℕ) (x : Store) (few : k ≤ 48) (v :
                 lt-ltb (getD (x .marks) (r * 3 + 1) 0) 281474976710656 (rw (m .level2) (packed-few k (ofDay (t .marks .level2) d) few)),
                 (
                   all-of (valueFits (x .values) r) k
-                      (λ j l. lt-ltb (getD (x .values) (r * 48 + j) 0) 10000 (rw (v .value j l) (mod-lt (totalAt s (t .counts) (48 * d + suc j) / 10) {m = 10000} (omega arith)))),
+                      (λ j l. lt-ltb (getD (x .values) (r * 48 + j) 0) valueRound (rw (v .value j l) (mod-lt (totalAt s (t .counts) (48 * d + suc j) / unitOf) {m = valueRound} (omega arith)))),
                   tt,
                 ),
               ),

@@ -18,9 +18,10 @@ use Rattle.laws.proofs.Loop.{for-keeps}
 use Rattle.laws.proofs.Split.{by-dec}
 use Rattle.laws.proofs.Tests.{allTrue-each}
 use Rattle.quantity.specs.declared.WattHours.{WattHours}
+use Rattle.quantity.specs.Units.{unitOf, valueAt}
 use Rattle.store.specs.Begun.{put, filled, begun}
 use Rattle.store.specs.Store.{Store}
-use Rattle.registers.specs.Energy.{noEnergy}
+use Rattle.registers.specs.Energy.{leastWeight, mostWeight, noEnergy}
 use Rattle.recorder.specs.declared.SetUp.{SetUp}
 use Rattle.recorder.specs.SetUp.{setUpTests, setUpAnswer, started, fresh, made}
 use Rattle.recorder.proofs.Answers.{days-few}
@@ -33,7 +34,7 @@ use Rattle.assurance.proofs.Kept.{Given, Stored, StoreKept, Kept, capOf
 pub given : (s : SetUp) (x : Store) → setUpAnswer s x ≡ 0 → Given s
 given s x e =
     let t = allTrue-each (setUpTests s) (not-false (allTrue (setUpTests s)) (set-up-tests s x e .0)) in
-    let w = both (leb 1 (s .weight .0)) (leb (s .weight .0) 100) (t .1 .1 .0) in
+    let w = both (leb leastWeight (s .weight .0)) (leb (s .weight .0) mostWeight) (t .1 .1 .0) in
     let b = set-up-begins s x e in
     record { identifier = t .0; some = b .fits .some; weight-low = leb-true _ _ (w .0); weight-high = leb-true _ _ (w .1); time = b .time; total = b .total }
 
@@ -67,16 +68,16 @@ module _ (s : SetUp) (z : Given s) where
   inside : room * 48 + q % 48 < capOf s * 48
   inside = digits-lt (mod-lt (q / 48) (z .some)) (mod-lt q {m = 48} (omega arith))
 
-  values-are : Filling (s .total .0 / 10 % 10000) (room * 48) (capOf s * 48) (room * 48 + q % 48) (x .values)
+  values-are : Filling (valueAt (s .total .0)) (room * 48) (capOf s * 48) (room * 48 + q % 48) (x .values)
   unfolding made begun
   values-are =
       rw (length-replicate {A = ℕ} (capOf s * 48) 0) at
-      (filling (s .total .0 / 10 % 10000) (room * 48) (room * 48 + q % 48) (replicate (capOf s * 48) 0) (omega arith)
+      (filling (valueAt (s .total .0)) (room * 48) (room * 48 + q % 48) (replicate (capOf s * 48) 0) (omega arith)
       (rw (length-replicate {A = ℕ} (capOf s * 48) 0) (omega (arith, inside))))
 
-  start-is : getD (x .starts) room 0 ≡ s .total .0 / 10
+  start-is : getD (x .starts) room 0 ≡ s .total .0 / unitOf
   unfolding made begun
-  start-is = getD-set-same (replicate (capOf s) 0) room (s .total .0 / 10) 0 (rw (length-replicate {A = ℕ} (capOf s) 0) (mod-lt (q / 48) (z .some)))
+  start-is = getD-set-same (replicate (capOf s) 0) room (s .total .0 / unitOf) 0 (rw (length-replicate {A = ℕ} (capOf s) 0) (mod-lt (q / 48) (z .some)))
 
   word : (i : ℕ) → i < room * 3 + 3 → getD (x .marks) i 0 ≡ 0
   unfolding made begun
@@ -96,7 +97,7 @@ module _ (s : SetUp) (z : Given s) where
       some = z .some;
       most = days-few (s .class);
       values = values-are .long;
-      starts = length-set (replicate (capOf s) 0) room (s .total .0 / 10) ∙ length-replicate {A = ℕ} (capOf s) 0;
+      starts = length-set (replicate (capOf s) 0) room (s .total .0 / unitOf) ∙ length-replicate {A = ℕ} (capOf s) 0;
       marks = length-replicate {A = ℕ} (capOf s * 3) 0;
     };
     values = λ d i.

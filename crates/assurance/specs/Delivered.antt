@@ -7,13 +7,12 @@ use mathlib.Core.Bool.{true, cond}
 use mathlib.Core.List.{List, [], _∷_, List·Memᴰ}
 use Rattle.laws.specs.Bits.{bit}
 use Rattle.laws.specs.Tests.{sumBelow}
-use Rattle.quantity.specs.Units.{unitOf}
 use Rattle.calendar.specs.Clock.{secondsOfHalf, secondsOfDay, halvesOfDay, endedOn}
 use Rattle.block.specs.declared.Answer.{Answer}
 use Rattle.profile.specs.Profile.{advanceAt}
 use Rattle.days.specs.Day.{History, Day, absent, isHeld, startOf, flagsOf, halfAt, count}
 use Rattle.days.specs.View.{Carries}
-use Rattle.days.specs.Energy.{advances, Unbroken}
+use Rattle.days.specs.Energy.{advances, Unbroken, Within}
 use Rattle.ledger.specs.declared.MissingAnswer.{MissingAnswer}
 use Rattle.ledger.specs.declared.SummaryAnswer.{SummaryAnswer}
 use Rattle.ledger.specs.Layout.{firstOf}
@@ -130,4 +129,4 @@ module _ (s : SetUp) (x : Store) (cs : List Call) where
           → fileAll (openOf m (s .identifier) first days .ledger) ds ≡ filed
       -- a stretch of half-hours all held: ten times its advances and the watt-hours counted in it differ by at most 9
       pub energy : (q n : ℕ) → Unbroken (heldOn filed) q n
-          → (unitOf * advances (heldOn filed) q n ≤ counted q n + (unitOf - 1)) × (counted q n ≤ unitOf * advances (heldOn filed) q n + (unitOf - 1))
+          → Within (advances (heldOn filed) q n) (counted q n)

@@ -8,7 +8,7 @@ use mathlib.Core.List.{List}
 use lib.ListN.{length, getD}
 use Rattle.laws.specs.Bits.{bitAt}
 use Rattle.laws.specs.Tests.{sumBelow}
-use Rattle.quantity.specs.Units.{unitOf, totalRound, demandRound, readingRound, valueRound}
+use Rattle.quantity.specs.Units.{totalRound, demandRound, readingAt, valueAt, unitsFrom}
 use Rattle.calendar.specs.Clock.{secondsOfHalf, halvesOfDay, endedOn}
 use Rattle.profile.specs.Profile.{advanceAt}
 use Rattle.days.specs.Day.{History}
@@ -62,7 +62,7 @@ module _ (s : SetUp) (x : Store) (es : List Event) where
   energyAt q = s .total .0 + countedBefore s q (blankPaper s) es
 
   abbrev pub unitsIn : ℕ → ℕ
-  unitsIn q = energyAt (suc q) / unitOf - energyAt q / unitOf
+  unitsIn q = unitsFrom (energyAt q) (energyAt (suc q))
 
   -- the half-hours of the accepted Resets, and the largest demand that each found; the half-hour of the last, or of set-up
   abbrev pub resets : List ℕ
@@ -104,8 +104,8 @@ module _ (s : SetUp) (x : Store) (es : List Event) where
     pub date : end .recorder .demand .reset ≡ lastOr 0 (daysNamed resets)
     pub count : end .recorder .demand .count ≡ length resets % countRound
     -- the half-hours
-    pub start : (d : ℕ) → past .start d ≡ energyAt (halfOf d 0) / unitOf % readingRound
-    pub value : (d j : ℕ) → past .half d j .value ≡ energyAt (halfOf d (suc j)) / unitOf % valueRound
+    pub start : (d : ℕ) → past .start d ≡ readingAt (energyAt (halfOf d 0))
+    pub value : (d j : ℕ) → past .half d j .value ≡ valueAt (energyAt (halfOf d (suc j)))
     pub few : (q : ℕ) → unitsIn q ≤ mostUnits
     pub advance : (d j : ℕ) → advanceAt (past .start d) (λ i. past .half d i .value) j ≡ unitsIn (halfOf d j)
     pub reverse : (d j : ℕ) → (past .half d j .reverse ≡ true) ↔ Happened (ReverseIn (halfOf d j))

@@ -1,9 +1,9 @@
 -- An outstation with paper that never ends: what set-up and the events wrote, with no store and no register that runs round.
 -- Half-hour q is half-hour q % 48 of day q / 48, all numbered from 2000-01-01 00:00 (docs/RULES.md, "Quantities").
-use Prim.Native.Nat.{ℕ, zero, suc, _+_, _-_, _*_, _/_, _%_, max}
+use Prim.Native.Nat.{ℕ, zero, suc, _+_, _-_, _*_, _/_, max}
 use mathlib.Core.Bool.{Bool}
 use Rattle.laws.specs.Bits.{bit}
-use Rattle.quantity.specs.Units.{unitOf, readingRound, valueRound}
+use Rattle.quantity.specs.Units.{readingAt, valueAt, unitsFrom}
 use Rattle.calendar.specs.Clock.{secondsOfHalf, secondsOfDay, halvesOfDay}
 use Rattle.days.specs.Day.{History}
 use Rattle.recorder.specs.declared.SetUp.{SetUp}
@@ -60,7 +60,7 @@ unfoldable pub totalAt : SetUp → Counts → ℕ → ℕ
 totalAt s c q = s .total .0 + c .before q
 
 unfoldable pub unitsOf : SetUp → Counts → ℕ → ℕ
-unitsOf s c q = totalAt s c (suc q) / unitOf - totalAt s c q / unitOf
+unitsOf s c q = unitsFrom (totalAt s c q) (totalAt s c (suc q))
 
 -- the largest of f from, .., f (from + n - 1); so the largest demand of the half-hours from one up to q
 unfoldable pub largest : (ℕ → ℕ) → ℕ → ℕ → ℕ
@@ -78,11 +78,11 @@ flagsOf f d = bit (f .outage d) * powerLost + bit (f .meter d) * meterChanged + 
 unfoldable pub historyOf : SetUp → Tape → History
 historyOf s p =
     record {
-      start = λ d. totalAt s (p .counts) (halvesOfDay * d) / unitOf % readingRound;
+      start = λ d. readingAt (totalAt s (p .counts) (halvesOfDay * d));
       flags = λ d. flagsOf (p .flags) d;
       half = λ d j.
           record {
-            value = totalAt s (p .counts) (halvesOfDay * d + suc j) / unitOf % valueRound;
+            value = valueAt (totalAt s (p .counts) (halvesOfDay * d + suc j));
             reverse = p .marks .reverse (halvesOfDay * d + j);
             level2 = p .marks .level2 (halvesOfDay * d + j);
           };

@@ -4,7 +4,7 @@ use Prim.Native.Nat.{ℕ, suc, _+_, _-_, _/_}
 use mathlib.Core.Bool.{Bool, true, false, cond, _||_, _&&_}
 use mathlib.Core.List.{List, [], _∷_}
 use lib.Dec.{leb, ltb, eqb}
-use Rattle.quantity.specs.Units.{unitOf}
+use Rattle.quantity.specs.Units.{unitsFrom}
 use Rattle.calendar.specs.Clock.{secondsOfHalf, secondsOfDay}
 use Rattle.registers.specs.Energy.{addedOf}
 use Rattle.recorder.specs.declared.SetUp.{SetUp}
@@ -80,7 +80,7 @@ abbrev pub energyOf : SetUp → Paper → ℕ → ℕ
 energyOf s p c = addedOf (s .weight) (p .last) c .0
 
 unfoldable pub unitsWith : SetUp → Paper → ℕ → ℕ
-unitsWith s p c = (totalAt s (p .tape .counts) (suc (now p)) + energyOf s p c) / unitOf - totalAt s (p .tape .counts) (now p) / unitOf
+unitsWith s p c = unitsFrom (totalAt s (p .tape .counts) (now p)) (totalAt s (p .tape .counts) (suc (now p)) + energyOf s p c)
 
 -- what an accepted event writes
 abbrev pub writes : SetUp → Paper → Event → Paper

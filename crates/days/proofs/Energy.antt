@@ -2,15 +2,15 @@
 -- Assumes nothing.
 use mathlib.Core.Path.{_≡_, refl, ap, _∙_}
 use mathlib.Core.Bool.{true}
-use Prim.Native.Nat.{ℕ, zero, suc, _<_, _≤_, _+_, _-_, _*_, _/_, _%_}
+use Prim.Native.Nat.{ℕ, zero, suc, _<_, _≤_, _+_, _*_, _/_, _%_}
 use native.Mathlib.Omega.{arith}
-use Rattle.quantity.specs.Units.{unitOf, valueRound, advance}
+use Rattle.quantity.specs.Units.{unitOf, valueRound, valueAt, unitsFrom, advance}
 use Rattle.profile.specs.Profile.{beforeAt, advanceAt}
 use Rattle.days.specs.Day.{Half, History, Day, absent, held, isHeld, startOf, halfAt, count}
-use Rattle.days.specs.Energy.{valueOf, Steady, Metered, values, advanceIn, advances, Unbroken, Close}
+use Rattle.days.specs.Energy.{Steady, Metered, values, advanceIn, advances, Unbroken, Close}
 
 -- the difference of values is the units passed, where these have four digits; only the last four digits of what stands before count
-advance-is : (p x y : ℕ) → p % valueRound ≡ valueOf x → x ≤ y → y / unitOf - x / unitOf < valueRound → advance p (valueOf y) ≡ y / unitOf - x / unitOf
+advance-is : (p x y : ℕ) → p % valueRound ≡ valueAt x → x ≤ y → unitsFrom x y < valueRound → advance p (valueAt y) ≡ unitsFrom x y
 advance-is p x y e up slow = omega arith
 
 held-of : (x : Day) (j : ℕ) → j < count x → isHeld x ≡ true
@@ -20,17 +20,17 @@ held-of (held s xs f) j l = refl
 module _ (h : History) (t : ℕ → ℕ) (m : Metered h t) (s : Steady t) (x : ℕ → Day)
     (start : (d : ℕ) → isHeld (x d) ≡ true → startOf (x d) ≡ h .start d) (room : (d : ℕ) → count (x d) ≤ 48)
     (value : (d j : ℕ) → j < count (x d) → halfAt (x d) j ≡ h .half d j) where
-  before-is : (d j : ℕ) → j < count (x d) → beforeAt (startOf (x d)) (values (x d)) j % valueRound ≡ valueOf (t (48 * d + j))
+  before-is : (d j : ℕ) → j < count (x d) → beforeAt (startOf (x d)) (values (x d)) j % valueRound ≡ valueAt (t (48 * d + j))
   unfolding beforeAt
   before-is d zero l =
       let z : 48 * d + 0 ≡ 48 * d = omega arith in
       rw (start d (held-of (x d) 0 l), m .start d, z) (omega arith)
   before-is d (suc j) l = omega (arith, ap (λ (a : Half). a .value) (value d j (omega arith)) ∙ m .half d j (omega (arith, room d)))
 
-  at-is : (d j : ℕ) → j < count (x d) → halfAt (x d) j .value ≡ valueOf (t (48 * d + suc j))
+  at-is : (d j : ℕ) → j < count (x d) → halfAt (x d) j .value ≡ valueAt (t (48 * d + suc j))
   at-is d j l = rw (value d j l) (m .half d j (omega (arith, room d)))
 
-  advance-in : (q : ℕ) → q % 48 < count (x (q / 48)) → advanceIn (x (q / 48)) (q % 48) ≡ t (suc q) / unitOf - t q / unitOf
+  advance-in : (q : ℕ) → q % 48 < count (x (q / 48)) → advanceIn (x (q / 48)) (q % 48) ≡ unitsFrom (t q) (t (suc q))
   unfolding advanceIn advanceAt
   advance-in q l =
       let a : 48 * (q / 48) + q % 48 ≡ q = omega arith in

@@ -11,14 +11,14 @@ use Rattle.quantity.specs.declared.RegisterUnits.{RegisterUnits}
 use Rattle.quantity.specs.declared.WattHours.{WattHours}
 use Rattle.quantity.specs.Units.{wattHours, units, readingOf, readingGap, energySum}
 use Rattle.registers.specs.declared.Energy.{Energy}
-use Rattle.registers.specs.Energy.{Countable, noEnergy, mostAdded, pulsesOf, addedOf, unitsWith, energyCounted}
+use Rattle.registers.specs.Energy.{Countable, noEnergy, mostWeight, mostPulses, mostAdded, pulsesOf, addedOf, unitsWith, energyCounted}
 
 -- a difference that runs round at 2^32 is the difference modulo 2^32
 pub wrapped : (c last p : ℕ) → c < 2 ^ 32 → last < 2 ^ 32 → p < 2 ^ 32 → (p + last) % 2 ^ 32 ≡ c → p ≡ pulsesOf last c
 wrapped c last p hc hl hp e = omega arith
 
 pub added-few : (w : WattHours) (e : Energy) (p : ℕ) → Countable w e → p < 2 ^ 32 → p * w .0 ≤ mostAdded
-added-few w e p g h = mul-le-mul {n₂ = 4294967295} {m₂ = 100} (omega arith) (g .weight)
+added-few w e p g h = mul-le-mul {n₂ = mostPulses} {m₂ = mostWeight} (omega arith) (g .weight)
 
 pub added-fits : (w : WattHours) (e : Energy) (p : ℕ) → Countable w e → p < 2 ^ 32 → Fits w64 (p * w .0)
 added-fits w e p g h = let q = added-few w e p g h in omega arith

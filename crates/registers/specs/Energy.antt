@@ -54,9 +54,12 @@ pulsesOf last c = (c + 2 ^ 32 - last) % 2 ^ 32
 unfoldable pub addedOf : WattHours → ℕ → ℕ → WattHours
 addedOf weight last c = wattHours (pulsesOf last c * weight .0)
 
--- and the most that it can be
+-- the most pulses that there can be, and the most energy
+abbrev pub mostPulses : ℕ
+mostPulses = 4294967295
+
 abbrev pub mostAdded : ℕ
-mostAdded = 4294967295 * mostWeight
+mostAdded = mostPulses * mostWeight
 
 -- the reading less the reading at the half-hour's start, and what Count(c) would add to it
 unfoldable pub unitsWith : WattHours → RegisterUnits → ℕ → Energy → ℕ
