@@ -81,7 +81,7 @@ static const struct {
     {"file it in an empty ledger", empty_ledger, library_file, c_file, 1, 400, COP6_HALVES * (DAYS - 1) + ENDED},
     {"file it again", nothing, library_file, c_file, 1, 400, 0},
     {"summary of a day", nothing, library_summary, c_summary, 1, 400, 0},
-    {"a Count", nothing, library_counts, c_counts, COUNTS, 100, COUNTS},
+    {"a Count", nothing, library_counts, c_counts, COUNTS, 100, (uint64_t)COUNTS * TIMED_PULSE},
     {"a Clock over one boundary", nothing, library_clocks, c_clocks, CLOCKS, 100, (uint64_t)CLOCKS * HALF_HOUR},
     {"a Clock over a year", nothing, library_years, c_years, YEARS, 20, (uint64_t)YEARS * YEAR},
     {"a Clock over a century", nothing, library_century, c_century, 1, 20, CENTURY},

@@ -24,9 +24,9 @@ uint64_t plain_missing(const uint8_t *ledger, size_t length, uint32_t day);
 uint64_t plain_flags(const uint8_t *ledger, size_t length, uint32_t day);
 uint64_t plain_halves(const uint8_t *ledger, size_t length, uint32_t day, uint64_t *out, size_t room);
 
-/* Set-up in a store of class d, at 2000-01-01 00:00:00 with 1 Wh a pulse and all at zero; then n Counts of one pulse each, and the total is returned; n
- * Clocks of so many seconds each, and the time; n events of outages, Off and On in turn, each outage so many seconds long, and the time; a Clock to a second,
- * n reads of all days, and the bytes of these. */
+/* Set-up in a store of class d, at 2000-01-01 00:00:00 with 1 Wh a pulse and all at zero; then n Counts of one pulse each, and the total is returned, in
+ * thousandths of a watt-hour; n Clocks of so many seconds each, and the time; n events of outages, Off and On in turn, each outage so many seconds long, and
+ * the time; a Clock to a second, n reads of all days, and the bytes of these. */
 uint64_t plain_counts(uint16_t *values, size_t v, uint32_t *starts, size_t p, uint64_t *marks, size_t m, uint32_t n);
 uint64_t plain_clocks(uint16_t *values, size_t v, uint32_t *starts, size_t p, uint64_t *marks, size_t m, uint32_t n, uint32_t by);
 uint64_t plain_outages(uint16_t *values, size_t v, uint32_t *starts, size_t p, uint64_t *marks, size_t m, uint32_t n, uint32_t by);

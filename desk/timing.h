@@ -8,6 +8,8 @@
 /* The store that they are lent, of class d: its days, and the words of a day's marks. */
 #define TIMED_DAYS 450
 #define TIMED_WORDS 3
+/* Thousandths of a watt-hour in a pulse: 1 Wh. */
+#define TIMED_PULSE 1000
 
 uint64_t timed_counts(uint16_t *values, size_t v, uint32_t *starts, size_t p, uint64_t *marks, size_t m, uint32_t n);
 uint64_t timed_clocks(uint16_t *values, size_t v, uint32_t *starts, size_t p, uint64_t *marks, size_t m, uint32_t n, uint32_t by);

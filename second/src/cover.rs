@@ -4,9 +4,9 @@
 use crate::answer::*;
 use crate::block::*;
 use crate::calendar::{self, HALF_HOURS, SECONDS_PER_DAY};
-use crate::lives;
+use crate::lives::{self, WEIGHTS};
 use crate::quantities::{KWH_DIGITS, VALUE_DIGITS};
-use crate::recorder::Class;
+use crate::recorder::{Class, Recorder};
 use crate::script::{self, Player};
 use std::collections::{BTreeMap, BTreeSet};
 
@@ -46,6 +46,8 @@ const ALLOWED: [(&str, &[u32]); 20] = [
 
 /// Clock and On.
 const TIMED_CALLS: usize = 2;
+/// The answers to a Count of a half-hour's last pulses, and to one pulse more.
+const AT_THE_MOST: [u32; 2] = [DONE, TOO_MANY_UNITS];
 
 /// The offsets of the fields of a block of two days: a wrong field is to be refused at each.
 fn field_offsets() -> BTreeSet<String> {
@@ -103,6 +105,8 @@ struct Passed {
     over: BTreeSet<(String, usize)>,
     /// Days of reading.
     read: BTreeSet<u64>,
+    /// Pulse weights with which a half-hour took its last pulses or refused one more, each with the answer.
+    filled: BTreeSet<(u64, u32)>,
 }
 
 impl Passed {
@@ -112,9 +116,12 @@ impl Passed {
         }
         let mut player = Player::new();
         for (line, number) in text.split(|&byte| byte == b'\n').zip(1..) {
-            let before = player.recorder.time;
+            let before = player.recorder;
             let answer = player.play_line(number, line).unwrap_or_default();
             let word = line.split(|&byte| byte == b' ').next().unwrap_or_default();
+            if word == b"count" {
+                self.add_count(&before, line, &answer);
+            }
             if !answer.starts_with(&format!("{DONE} ")) {
                 continue;
             }
@@ -122,7 +129,7 @@ impl Passed {
             match word {
                 b"clock" | b"on" => {
                     let held = player.recorder.class.map_or(0, Class::days);
-                    if (time - before) / SECONDS_PER_DAY > held as u64 {
+                    if (time - before.time) / SECONDS_PER_DAY > held as u64 {
                         self.over.insert((String::from_utf8_lossy(word).to_string(), held));
                     }
                 }
@@ -130,6 +137,18 @@ impl Passed {
                     self.read.insert(calendar::day_of(time));
                 }
                 _ => {}
+            }
+        }
+    }
+
+    fn add_count(&mut self, before: &Recorder, line: &[u8], answer: &str) {
+        for (number, more) in AT_THE_MOST.into_iter().zip(0..) {
+            if answer == format!("{number} 0") && WEIGHTS.contains(&before.weight) {
+                let most = lives::pulses_left(before);
+                let counter = before.last.wrapping_add((most + more) as u32);
+                if most > 0 && line == format!("count {counter}").as_bytes() {
+                    self.filled.insert((before.weight, number));
+                }
             }
         }
     }
@@ -179,6 +198,8 @@ pub fn cover(seed: u64) -> bool {
     println!("classes whose days were passed over at once, by clock and by on: {over} of {all}");
     let read = passed.read.len() as u64;
     println!("days of reading: {read} of {}", calendar::DAYS);
+    let (filled, weights) = (passed.filled.len(), AT_THE_MOST.len() * WEIGHTS.len());
+    println!("pulse weights with which a half-hour took its most, and refused one pulse more: {filled} of {weights}");
     println!("scripts: {}, bytes: {}", scripts.len(), scripts.iter().map(|script| script.text.len()).sum::<usize>());
-    right && reached == fields.len() && over == all && read == calendar::DAYS
+    right && reached == fields.len() && over == all && read == calendar::DAYS && filled == weights
 }

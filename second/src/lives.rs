@@ -9,13 +9,18 @@ mod hostile;
 mod lines;
 mod ordinary;
 mod outages;
+mod weights;
 mod writer;
+
+pub use weights::WEIGHTS;
 
 use crate::block::{DEMAND_RESET, FLAGS, RATES};
 use crate::calendar;
-use crate::quantities::{MOST_UNITS, TOTAL_MODULUS, WATT_HOURS_PER_UNIT};
+use crate::quantities::{
+    LEAST_WEIGHT, MOST_UNITS, MOST_WEIGHT, THOUSANDTHS_PER_UNIT, THOUSANDTHS_PER_WATT_HOUR, TOTAL_MODULUS,
+};
 use crate::random::Random;
-use crate::recorder::{Class, StoreLength, LEAST_WEIGHT, MOST_WEIGHT};
+use crate::recorder::{Class, Recorder, StoreLength};
 use crate::script::{Player, MOST_SCRIPT_BYTES};
 
 /// The example's identifier, and another.
@@ -28,6 +33,12 @@ const FULL_SCRIPT: usize = MOST_SCRIPT_BYTES - 300_000;
 /// Most lives begin by this day, so that they can fill the longest store within the calendar.
 const LATEST_START: u64 = calendar::DAYS - Class::D.days() as u64 - 75;
 
+/// One watt-hour in thousandths, and a weight of one register unit a pulse.
+const WATT_HOUR: u64 = THOUSANDTHS_PER_WATT_HOUR;
+const UNIT_A_PULSE: u64 = THOUSANDTHS_PER_UNIT;
+/// The thousandths of the first units that no half-hour takes.
+const FULL_HALF_HOUR: u64 = (MOST_UNITS + 1) * THOUSANDTHS_PER_UNIT;
+
 /// The greatest number of 32 bits.
 const MOST_32_BITS: u64 = u32::MAX as u64;
 
@@ -39,7 +50,7 @@ pub struct Script {
 type Generator = fn(u64) -> Script;
 
 /// The kinds of a round, each with the number of scripts of that kind.
-const KINDS: [(Generator, u64); 27] = [
+const KINDS: [(Generator, u64); 30] = [
     (ordinary::weeks, 16),
     (ordinary::year, 1),
     (ordinary::ledgers, 3),
@@ -67,6 +78,9 @@ const KINDS: [(Generator, u64); 27] = [
     (dates::words, 1),
     (dates::of_records, 1),
     (dates::of_resets, 1),
+    (weights::crossed, 1),
+    (weights::remainders, 1),
+    (weights::limits, 1),
 ];
 
 /// All scripts of one round.
@@ -164,12 +178,17 @@ impl Life {
         self.say(format!("count {counter}"))
     }
 
-    /// The most pulses that the running half-hour still takes.
     fn pulses_left(&self) -> u64 {
-        let r = &self.player.recorder;
-        let units = MOST_UNITS.saturating_sub(r.running_units());
-        let watt_hours = (units + 1) * WATT_HOURS_PER_UNIT - 1 - r.total % WATT_HOURS_PER_UNIT;
-        watt_hours.checked_div(r.weight).unwrap_or(0)
+        pulses_left(&self.player.recorder)
+    }
+
+    /// A weight of whole watt-hours, of less than one, or of any thousandths.
+    fn random_weight(&mut self) -> u64 {
+        match self.random.below(4) {
+            0 | 1 => WATT_HOUR * self.random.between(1, MOST_WEIGHT / WATT_HOUR),
+            2 => self.random.between(LEAST_WEIGHT, WATT_HOUR - 1),
+            _ => self.random.between(LEAST_WEIGHT, MOST_WEIGHT),
+        }
     }
 
     fn day(&mut self, day: u64) -> String {
@@ -194,7 +213,7 @@ impl Life {
     /// A fresh recorder with a few days behind it, power on, marks and flags among them.
     fn lived(&mut self, class: Class, days: u64) {
         let start = self.random.between(600, LATEST_START) * calendar::SECONDS_PER_DAY + self.random.below(80_000);
-        let weight = self.random.between(LEAST_WEIGHT, MOST_WEIGHT);
+        let weight = self.random_weight();
         let total = self.random.below(TOTAL_MODULUS);
         let counter = self.random.bits() as u32;
         self.set_up(class, weight, start, total, counter);
@@ -210,6 +229,13 @@ impl Life {
             self.clock(time);
         }
     }
+}
+
+/// The most pulses that a recorder's running half-hour still takes.
+pub fn pulses_left(recorder: &Recorder) -> u64 {
+    let units = MOST_UNITS.saturating_sub(recorder.running_units());
+    let thousandths = (units + 1) * THOUSANDTHS_PER_UNIT - 1 - recorder.total % THOUSANDTHS_PER_UNIT;
+    thousandths.checked_div(recorder.weight).unwrap_or(0)
 }
 
 fn letter(class: Class) -> &'static str {

@@ -3,6 +3,7 @@
 
 mod hold;
 mod order;
+mod weights;
 
 use crate::answer::{Answer, DAMAGED, OUT_OF_RANGE, TOO_MANY_UNITS, WRONG_LENGTH, WRONG_POWER, WRONG_TIME};
 use crate::block::{self, Day, Header};
@@ -77,17 +78,17 @@ fn answers(lines: &[&str]) -> Vec<String> {
 
 #[test]
 fn pulses_run_round() {
-    let mut outstation = Outstation::new(Class::A, 10, "240229110000", 0, 4_294_967_290);
+    let mut outstation = Outstation::new(Class::A, 10_000, "240229110000", 0, 4_294_967_290);
     assert_eq!(outstation.event(Event::Count(5)), 0);
-    assert_eq!(outstation.recorder.total, 110);
-    assert_eq!(outstation.recorder.registers, [110, 0, 0, 0, 0, 0, 0, 0]);
+    assert_eq!(outstation.recorder.total, 110_000);
+    assert_eq!(outstation.recorder.registers, [110_000, 0, 0, 0, 0, 0, 0, 0]);
     assert_eq!(outstation.event(Event::Count(5)), 0);
-    assert_eq!(outstation.recorder.total, 110);
+    assert_eq!(outstation.recorder.total, 110_000);
 }
 
 #[test]
 fn units_of_a_half_hour() {
-    for (total, weight, accepted, refused) in [(0, 10, 9_999, 10_000), (9, 1, 99_990, 99_991)] {
+    for (total, weight, accepted, refused) in [(0, 10_000, 9_999, 10_000), (9_000, 1_000, 99_990, 99_991)] {
         let mut outstation = Outstation::new(Class::A, weight, "240229110000", total, 0);
         let before = outstation.recorder;
         assert_eq!(outstation.event(Event::Count(refused)), TOO_MANY_UNITS);
@@ -99,10 +100,10 @@ fn units_of_a_half_hour() {
 
 #[test]
 fn total_runs_round() {
-    let mut outstation = Outstation::new(Class::A, 10, "240229110000", 999_999_995, 0);
+    let mut outstation = Outstation::new(Class::A, 10_000, "240229110000", 999_999_995_000, 0);
     assert_eq!(outstation.day("240229").start, 99_999_999);
     assert_eq!(outstation.event(Event::Count(1)), 0);
-    assert_eq!(outstation.recorder.total, 5);
+    assert_eq!(outstation.recorder.total, 5_000);
     assert_eq!(outstation.event(Event::Clock(at("240229113000"))), 0);
     assert_eq!(outstation.day("240229").values[22], 0);
     assert_eq!(outstation.recorder.current, 2);
@@ -111,7 +112,7 @@ fn total_runs_round() {
 
 #[test]
 fn the_boundary_closes_the_first_half_hour() {
-    let mut outstation = Outstation::new(Class::A, 10, "240229000000", 0, 0);
+    let mut outstation = Outstation::new(Class::A, 10_000, "240229000000", 0, 0);
     outstation.event(Event::Count(50));
     outstation.event(Event::Reverse);
     assert_eq!(outstation.event(Event::Clock(at("240229002959"))), 0);
@@ -126,7 +127,7 @@ fn the_boundary_closes_the_first_half_hour() {
 
 #[test]
 fn clock_to_the_same_second_and_one_earlier() {
-    let mut outstation = Outstation::new(Class::A, 10, "240229110000", 0, 0);
+    let mut outstation = Outstation::new(Class::A, 10_000, "240229110000", 0, 0);
     assert_eq!(outstation.event(Event::Clock(at("240229110000"))), 0);
     let before = outstation.recorder;
     assert_eq!(outstation.event(Event::Clock(at("240229105959"))), WRONG_TIME);
@@ -136,7 +137,7 @@ fn clock_to_the_same_second_and_one_earlier() {
 
 #[test]
 fn reset_runs_round() {
-    let mut outstation = Outstation::new(Class::A, 10, "240229110000", 0, 0);
+    let mut outstation = Outstation::new(Class::A, 10_000, "240229110000", 0, 0);
     outstation.recorder.cumulative = 999_999;
     outstation.recorder.current = 2;
     outstation.recorder.resets = 99;
@@ -150,7 +151,7 @@ fn reset_runs_round() {
 
 #[test]
 fn a_read_of_no_days() {
-    let block = Outstation::new(Class::A, 10, "240229110000", 123_456_789, 0).read(0);
+    let block = Outstation::new(Class::A, 10_000, "240229110000", 123_456_789_000, 0).read(0);
     assert_eq!(block.len(), 112);
     assert_eq!(block[..5], [0, 0, 0, 0x6c, 1]);
     let text = "ABCX24000017".to_string()
@@ -167,7 +168,7 @@ fn a_read_of_no_days() {
 
 #[test]
 fn a_read_of_450_days() {
-    let mut outstation = Outstation::new(Class::D, 10, "230101110000", 0, 0);
+    let mut outstation = Outstation::new(Class::D, 10_000, "230101110000", 0, 0);
     assert_eq!(outstation.event(Event::Clock(at("240901113000"))), 0);
     assert_eq!(outstation.recorder.days, 450);
     let block = outstation.read(450);
@@ -193,7 +194,7 @@ fn the_lengths_of_the_pages() {
 
 #[test]
 fn an_outage_over_three_days() {
-    let mut outstation = Outstation::new(Class::A, 10, "240229120000", 0, 0);
+    let mut outstation = Outstation::new(Class::A, 10_000, "240229120000", 0, 0);
     outstation.event(Event::Clock(at("240301235000")));
     assert_eq!(outstation.event(Event::Off), 0);
     assert_eq!(outstation.event(Event::On(at("240303001000"))), 0);
@@ -204,7 +205,7 @@ fn an_outage_over_three_days() {
 
 #[test]
 fn an_outage_of_as_many_days_as_the_class_holds() {
-    let mut outstation = Outstation::new(Class::A, 10, "240301120000", 0, 0);
+    let mut outstation = Outstation::new(Class::A, 10_000, "240301120000", 0, 0);
     outstation.event(Event::Meter(0));
     outstation.event(Event::Count(50));
     outstation.event(Event::Off);
@@ -220,7 +221,7 @@ fn an_outage_of_as_many_days_as_the_class_holds() {
 
 #[test]
 fn one_day_blocks_in_either_order() {
-    let mut outstation = Outstation::new(Class::A, 10, "240229000000", 4_711_000, 0);
+    let mut outstation = Outstation::new(Class::A, 10_000, "240229000000", 4_711_000_000, 0);
     outstation.event(Event::Count(50));
     outstation.event(Event::Clock(at("240229011000")));
     let early = outstation.read(1);
@@ -245,7 +246,7 @@ fn one_day_blocks_in_either_order() {
 
 #[test]
 fn the_listing_example() {
-    let mut outstation = Outstation::new(Class::A, 10, "240229000000", 4_711_000, 0);
+    let mut outstation = Outstation::new(Class::A, 10_000, "240229000000", 4_711_000_000, 0);
     outstation.event(Event::Count(50));
     outstation.event(Event::Clock(at("240229003000")));
     outstation.event(Event::Count(130));
@@ -259,7 +260,7 @@ fn the_listing_example() {
 
 #[test]
 fn set_up_in_the_middle_of_a_day() {
-    let mut outstation = Outstation::new(Class::A, 10, "240229011000", 4_711_009, 0);
+    let mut outstation = Outstation::new(Class::A, 10_000, "240229011000", 4_711_009_000, 0);
     let day = outstation.day("240229");
     assert_eq!(day.start, 471_100);
     assert_eq!(day.values[..3], [1_100, 1_100, 0]);

@@ -9,7 +9,7 @@ use lib.ListN.{length, getD, set, length-set}
 use lib.Seq.{getD-set-other, getD-set-same}
 use borrow.Author.Tests.{lt-ltb, le-ltb, eq-eqb, ne-eqb}
 use Rattle.laws.proofs.Split.{by-dec}
-use Rattle.quantity.specs.declared.WattHours.{WattHours}
+use Rattle.quantity.specs.declared.MilliwattHours.{MilliwattHours}
 use Rattle.quantity.specs.Units.{totalRound, unitsFrom, energySum}
 use Rattle.registers.specs.declared.Energy.{Energy}
 use Rattle.registers.specs.Energy.{noEnergy, addedOf, energyCounted}
@@ -72,7 +72,7 @@ module _ (s : SetUp) (p : Tape) (q i w : ℕ) where
 sum-of : (a b w : ℕ) → a ≡ b % totalRound → (a + w) % totalRound ≡ (b + w) % totalRound
 sum-of a b w e = omega arith
 
-rates-count : (rs : List WattHours) (f : ℕ → ℕ) (i : ℕ) (w : WattHours) → length rs ≡ 8 → i < 8
+rates-count : (rs : List MilliwattHours) (f : ℕ → ℕ) (i : ℕ) (w : MilliwattHours) → length rs ≡ 8 → i < 8
     → ((j : ℕ) → j < 8 → getD rs j noEnergy .0 ≡ f j % totalRound)
     → (j : ℕ) → j < 8 → getD (set rs i (energySum (getD rs i noEnergy) w)) j noEnergy .0 ≡ addAt i (w .0) f j % totalRound
 unfolding addAt
@@ -80,11 +80,11 @@ rates-count rs f i w long li g j l =
     by-dec (ℕ-discrete j i)
     (λ e.
     rw (eq-eqb j i e, e)
-    (ap (λ (a : WattHours). a .0) (getD-set-same rs i (energySum (getD rs i noEnergy) w) noEnergy (omega arith))
+    (ap (λ (a : MilliwattHours). a .0) (getD-set-same rs i (energySum (getD rs i noEnergy) w) noEnergy (omega arith))
     ∙ sum-of (getD rs i noEnergy .0) (f i) (w .0) (g i li)))
     (λ ne.
     rw (ne-eqb j i ne)
-    (ap (λ (a : WattHours). a .0) (getD-set-other rs i j (energySum (getD rs i noEnergy) w) noEnergy ne)
+    (ap (λ (a : MilliwattHours). a .0) (getD-set-other rs i j (energySum (getD rs i noEnergy) w) noEnergy ne)
     ∙ g j l ∙ none (f j)))
   where
     none : (b : ℕ) → b % totalRound ≡ (b + 0) % totalRound
@@ -96,7 +96,7 @@ module _ (s : SetUp) (p : Tape) (q n : ℕ) (x : Mem) (g : KeptAt s p q x) where
   e = x .recorder .energy
 
   -- its energy, and the rate
-  abbrev more : WattHours
+  abbrev more : MilliwattHours
   more = addedOf (x .recorder .identity .weight) (e .last) n
 
   abbrev i : ℕ

@@ -39,7 +39,7 @@ sum-add f (suc n) i w l =
 
 -- ---- one event, and a list
 
--- w watt-hours more
+-- energy w more
 record More (p u : Paper) (w : ℕ) : Type 0 where
   before : (q : ℕ) → u .tape .counts .before q ≡ p .tape .counts .before q + cond (ltb (now p) q) w 0
   rates : sumBelow (u .tape .counts .rate) 8 ≡ sumBelow (p .tape .counts .rate) 8 + w

@@ -11,7 +11,7 @@ use borrow.Author.Tests.{lt-ltb}
 use Rattle.laws.specs.Bits.{bitAt}
 use Rattle.laws.proofs.Bits.{bit-packed}
 use Rattle.laws.proofs.Table.{length-table}
-use Rattle.quantity.specs.Units.{totalRound, wattHours, readingAt, valueAt, kwhOf}
+use Rattle.quantity.specs.Units.{totalRound, milliwattHours, readingAt, valueAt, kwhOf}
 use Rattle.calendar.specs.Clock.{endedOn}
 use Rattle.format.specs.Numbers.{binary, numAt}
 use Rattle.block.specs.Header.{headGiven}
@@ -71,7 +71,7 @@ module _ (s : SetUp) (z : Given s) (p : Paper) (x : Mem) (k : Kept s p x) (asked
 
   eight : length (headerDue s p .rates) ≡ 8
   unfolding headerDue
-  eight = length-table 8 (λ i. kwhOf (wattHours (p .tape .counts .rate i % totalRound)))
+  eight = length-table 8 (λ i. kwhOf (milliwattHours (p .tape .counts .rate i % totalRound)))
 
   pub ident-due : identIn vs ≡ numAt binary (s .identifier) 0 12
   unfolding headIn fieldsDue given headGiven headerDue

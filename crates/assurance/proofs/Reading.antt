@@ -11,7 +11,7 @@ use lib.Seq.{sets}
 use Rattle.laws.specs.Table.{table}
 use Rattle.laws.proofs.Split.{by-test}
 use Rattle.laws.proofs.Table.{length-table, table-same}
-use Rattle.quantity.specs.Units.{totalRound, wattHours, centiKilowatts, kwhOf}
+use Rattle.quantity.specs.Units.{totalRound, milliwattHours, centiKilowatts, kwhOf}
 use Rattle.block.specs.Answers.{answer}
 use Rattle.block.specs.Layout.{blockBytes}
 use Rattle.block.specs.Parse.{fields, parse}
@@ -34,18 +34,18 @@ use Rattle.assurance.proofs.Sound.{can-write, is-shaped}
 module _ (s : SetUp) (z : Given s) (p : Paper) (x : Mem) (k : Kept s p x) where
   -- ---- what is sent is the paper's
 
-  rates-due : table 8 (rateSent (x .recorder .energy .rates)) ≡ table 8 (λ i. kwhOf (wattHours (p .tape .counts .rate i % totalRound)))
+  rates-due : table 8 (rateSent (x .recorder .energy .rates)) ≡ table 8 (λ i. kwhOf (milliwattHours (p .tape .counts .rate i % totalRound)))
   unfolding rateSent
   rates-due =
-      table-same 8 (rateSent (x .recorder .energy .rates)) (λ i. kwhOf (wattHours (p .tape .counts .rate i % totalRound)))
-      (λ i l. ap (λ (a : ℕ). kwhOf (wattHours a)) (k .at .energy .rates i l))
+      table-same 8 (rateSent (x .recorder .energy .rates)) (λ i. kwhOf (milliwattHours (p .tape .counts .rate i % totalRound)))
+      (λ i l. ap (λ (a : ℕ). kwhOf (milliwattHours a)) (k .at .energy .rates i l))
 
   header-due : headerSent (x .recorder) ≡ headerDue s p
   unfolding headerSent headerDue
   header-due = λ t. record {
     identifier = ap (λ (i : Identity). i .identifier) (k .at .identity) t;
     time = k .time t;
-    kwh = kwhOf (wattHours (k .at .energy .total t));
+    kwh = kwhOf (milliwattHours (k .at .energy .total t));
     current = centiKilowatts (k .at .demand .current t);
     previous = centiKilowatts (k .at .demand .previous t);
     cumulative = centiKilowatts (k .at .demand .cumulative t);
@@ -70,7 +70,7 @@ module _ (s : SetUp) (z : Given s) (p : Paper) (x : Mem) (k : Kept s p x) where
 
     eight : length (headerDue s p .rates) ≡ 8
     unfolding headerDue
-    eight = length-table 8 (λ i. kwhOf (wattHours (p .tape .counts .rate i % totalRound)))
+    eight = length-table 8 (λ i. kwhOf (milliwattHours (p .tape .counts .rate i % totalRound)))
 
     -- the block reads back as the fields
     pub block-reads : parse (blockDue s p asked) ≡ fields n (fieldsDue s p asked)

@@ -16,7 +16,7 @@ use Rattle.laws.proofs.Bools.{both}
 use Rattle.laws.proofs.Split.{by-dec}
 use Rattle.laws.proofs.Table.{length-table, table-at}
 use Rattle.laws.proofs.Tests.{allTrue-of, all-of}
-use Rattle.quantity.specs.Units.{unitOf, kwhOfUnit, totalRound, readingRound, valueRound, wattHours, kilowattHours, readingAt, valueAt, kwhOf}
+use Rattle.quantity.specs.Units.{unitOf, kwhOfUnit, totalRound, readingRound, valueRound, milliwattHours, kilowattHours, readingAt, valueAt, kwhOf}
 use Rattle.calendar.specs.Clock.{endedAt, endedOn}
 use Rattle.profile.specs.Profile.{endReading, valuesFrom}
 use Rattle.profile.proofs.Laws.{Readings, readingBefore, sum-agree, sum-of-readings}
@@ -117,7 +117,7 @@ module _ (s : SetUp) (z : Given s) (p : Paper) (x : Mem) (k : Kept s p x) where
 
   eight : length (h .rates) ≡ 8
   unfolding headerDue
-  eight = length-table 8 (λ i. kwhOf (wattHours (c .rate i % totalRound)))
+  eight = length-table 8 (λ i. kwhOf (milliwattHours (c .rate i % totalRound)))
 
   totals-fit : okValues totalFields (totalsOf h) ≡ true
   unfolding headerDue
@@ -133,7 +133,7 @@ module _ (s : SetUp) (z : Given s) (p : Paper) (x : Mem) (k : Kept s p x) where
   rates-fit =
       sym (rates-all (h .rates) 8 true eight
       (sym (all-of (rateFits (h .rates)) 8 (λ i l.
-      rw (rate-at (h .rates) i, table-at 8 (λ i. kwhOf (wattHours (c .rate i % totalRound))) i (kilowattHours 0) l)
+      rw (rate-at (h .rates) i, table-at 8 (λ i. kwhOf (milliwattHours (c .rate i % totalRound))) i (kilowattHours 0) l)
       (sym (small (c .rate i % totalRound / kwhOfUnit) (kwh-few (c .rate i)))))))
       (omega arith) (omega arith))
 

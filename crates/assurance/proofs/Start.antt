@@ -17,7 +17,7 @@ use Rattle.laws.proofs.Bools.{both}
 use Rattle.laws.proofs.Loop.{for-keeps}
 use Rattle.laws.proofs.Split.{by-dec}
 use Rattle.laws.proofs.Tests.{allTrue-each}
-use Rattle.quantity.specs.declared.WattHours.{WattHours}
+use Rattle.quantity.specs.declared.MilliwattHours.{MilliwattHours}
 use Rattle.quantity.specs.Units.{unitOf, valueAt}
 use Rattle.store.specs.Begun.{put, filled, begun}
 use Rattle.store.specs.Store.{Store}
@@ -129,7 +129,7 @@ module _ (s : SetUp) (z : Given s) where
         flat = λ h l. refl;
         total = omega (arith, z .total);
         rates-long = refl;
-        rates = λ i l. ap (λ (w : WattHours). w .0) (getD-replicate 8 i noEnergy noEnergy l);
+        rates = λ i l. ap (λ (w : MilliwattHours). w .0) (getD-replicate 8 i noEnergy noEnergy l);
         rate-low = omega arith;
         rate-high = omega arith;
       };

@@ -58,7 +58,7 @@ module _ (s : SetUp) (x : Store) (cs : List Call) where
   abbrev pub past : History
   past = life.past s x (eventsOf cs)
 
-  -- watt-hours of the Counts accepted in the n half-hours from q on
+  -- the energy of the Counts accepted in the n half-hours from q on, in thousandths of a watt-hour
   abbrev pub counted : ℕ → ℕ → ℕ
   counted q n = countedBefore s (q + n) (blankPaper s) (eventsOf cs) - countedBefore s q (blankPaper s) (eventsOf cs)
 
@@ -127,6 +127,6 @@ module _ (s : SetUp) (x : Store) (cs : List Call) where
       -- the same blocks in another order, with other repeats, in another fresh ledger: the same bytes
       pub order : (m : List ℕ) (ds : List (List ℕ)) → openOf m (s .identifier) first days .answer ≡ 0 → ((b : List ℕ) → List·Memᴰ b bs ↔ List·Memᴰ b ds)
           → fileAll (openOf m (s .identifier) first days .ledger) ds ≡ filed
-      -- a stretch of half-hours all held: ten times its advances and the watt-hours counted in it differ by at most 9
+      -- a stretch of half-hours all held: its advances and the energy counted in it are within 10 Wh of each other, the bound itself not reached
       pub energy : (q n : ℕ) → Unbroken (heldOn filed) q n
           → Within (advances (heldOn filed) q n) (counted q n)

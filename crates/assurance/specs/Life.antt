@@ -94,7 +94,7 @@ module _ (s : SetUp) (x : Store) (es : List Event) where
     pub active : end .recorder .energy .rate ≡ lastSet s rateSet 1 (blankPaper s) es
     -- the registers
     pub total : end .recorder .energy .total .0 ≡ (s .total .0 + countedIn s (blankPaper s) es) % totalRound
-    -- each rate register: the watt-hours of the Counts accepted while its rate was active; all eight together, with the start total, are the total
+    -- each rate register: the energy of the Counts accepted while its rate was active; all eight together, with the start total, are the total
     pub rate : (i : ℕ) → i < rateCount → getD (end .recorder .energy .rates) i noEnergy .0 ≡ countedAt s (suc i) 1 (blankPaper s) es % totalRound
     pub rates : (s .total .0 + sumBelow (λ i. getD (end .recorder .energy .rates) i noEnergy .0) rateCount) % totalRound ≡ end .recorder .energy .total .0
     pub current : end .recorder .demand .current .0 ≡ 2 * largest unitsIn since (now told - since)

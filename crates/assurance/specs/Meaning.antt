@@ -1,5 +1,5 @@
--- What is said of a run from its events alone: time, power, counter and active rate, the watt-hours counted, and at each rate, the half-hours of the Resets and what each found,
--- and whether some event of a kind was accepted.
+-- What is said of a run from its events alone: time, power, counter and active rate; the energy counted, and at each rate, in thousandths of a watt-hour; the half-hours of the Resets and what each
+-- found; and whether some event of a kind was accepted.
 use Prim.Native.Nat.{ℕ, suc, _+_, _-_, _*_, _/_, _≤_}
 use mathlib.Core.Path.{_≡_}
 use mathlib.Core.Logic.{_⊎_}
@@ -59,7 +59,7 @@ rateSet r (Rate n) = n
 rateSet r Reverse = r
 
 module _ (s : SetUp) where
-  -- the watt-hours of an event: those of an accepted Count
+  -- the energy of an event: that of an accepted Count
   abbrev pub energyIn : Paper → Event → ℕ
   energyIn p (Count c) = cond (eqb (due s p (Count c)) 0) (energyOf s p c) 0
   energyIn p (Clock t) = 0
@@ -71,7 +71,7 @@ module _ (s : SetUp) where
   energyIn p (Rate n) = 0
   energyIn p Reverse = 0
 
-  -- those of a list of events, and of the events before half-hour q began
+  -- that of a list of events, and of the events before half-hour q began
   unfoldable pub countedIn : Paper → List Event → ℕ
   countedIn p [] = 0
   countedIn p (e ∷ es) = energyIn p e + countedIn (written s p e) es
@@ -88,7 +88,7 @@ module _ (s : SetUp) where
   lastSet f a p [] = a
   lastSet f a p (e ∷ es) = lastSet f (setBy f a p e) (written s p e) es
 
-  -- the watt-hours of the Counts accepted while rate n was active, rate r being active at first
+  -- the energy of the Counts accepted while rate n was active, rate r being active at first
   unfoldable pub countedAt : ℕ → ℕ → Paper → List Event → ℕ
   countedAt n r p [] = 0
   countedAt n r p (e ∷ es) = cond (eqb r n) (energyIn p e) 0 + countedAt n (setBy rateSet r p e) (written s p e) es

@@ -9,7 +9,7 @@ use Rattle.days.specs.Day.{History}
 use Rattle.recorder.specs.declared.SetUp.{SetUp}
 use Rattle.recorder.specs.Effect.{powerLost, meterChanged, demandCleared}
 
--- the watt-hours of accepted Counts: those before half-hour q began (of a half-hour to come: all so far), and those at rate i + 1
+-- the energy of accepted Counts, in thousandths of a watt-hour: what came before half-hour q began (of a half-hour to come: all so far), and what at rate i + 1
 pub record Counts : Type 0 where
   pub before : ℕ → ℕ
   pub rate : ℕ → ℕ

@@ -8,7 +8,7 @@ use lib.ListN.{length}
 use lib.Seq.{sets}
 use Rattle.laws.specs.Bits.{packBits}
 use Rattle.laws.specs.Table.{table}
-use Rattle.quantity.specs.Units.{totalRound, demandRound, wattHours, centiKilowatts, kwhOf}
+use Rattle.quantity.specs.Units.{totalRound, demandRound, milliwattHours, centiKilowatts, kwhOf}
 use Rattle.calendar.specs.Clock.{secondsOfDay, halvesOfDay, endedOn}
 use Rattle.profile.specs.Profile.{fillAfter}
 use Rattle.block.specs.declared.Answer.{Answer}
@@ -37,13 +37,13 @@ headerDue s p =
     record {
       identifier = s .identifier;
       time = p .time;
-      kwh = kwhOf (wattHours (totalAt s c (suc (now p)) % totalRound));
+      kwh = kwhOf (milliwattHours (totalAt s c (suc (now p)) % totalRound));
       current = centiKilowatts (peakOf s c (d .since) (now p));
       previous = centiKilowatts (d .previous);
       cumulative = centiKilowatts (d .cumulative % demandRound);
       reset = d .date;
       count = d .resets % countRound;
-      rates = table rateCount (λ i. kwhOf (wattHours (c .rate i % totalRound)));
+      rates = table rateCount (λ i. kwhOf (milliwattHours (c .rate i % totalRound)));
     }
 
 -- the marks of the first k half-hours

@@ -26,7 +26,7 @@ markAt at f q = f q || eqb q at
 unfoldable pub markFrom : ℕ → ℕ → (ℕ → Bool) → ℕ → Bool
 markFrom a z f d = f d || (leb a d && leb d z)
 
--- w watt-hours in half-hour q at rate i + 1
+-- energy w in half-hour q at rate i + 1
 abbrev pub counted : ℕ → ℕ → ℕ → Tape → Tape
 counted q i w p =
     record { counts = record { before = addAfter q w (p .counts .before); rate = addAt i w (p .counts .rate) }; marks = p .marks; flags = p .flags; demands = p .demands }

@@ -1,15 +1,15 @@
--- The starred cases of the table "Reckoned by hand" of docs/RULES.md, its outage of three days, the daily flags, the marks, and answers 1, 6 and 2; then the days of the classes, the
+-- The starred cases of the table "Reckoned by hand" of docs/RULES.md, its outage of three days, weights that are no whole watt-hours, the daily flags, the marks, and answers 1, 6 and 2; then the days of the classes, the
 -- characters of an identifier and the ranges of a recorder's fields (docs/RULES.md, "Set-up"), and the order of the answers to set-up and events (docs/RULES.md, "Checked in this
 -- order"), by inputs that two checks refuse. For each what the definitions give, and what is due.
 use Prim.Native.Nat.{ℕ}
 use mathlib.Core.Bool.{true}
-use mathlib.Core.List.{List, [], _∷_, map}
-use lib.ListN.{replicate, set}
+use mathlib.Core.List.{List, [], _∷_, _++_, map}
+use lib.ListN.{getD, replicate, set}
 use Rattle.calendar.specs.Calendar.{realDate}
 use Rattle.calendar.specs.Clock.{endedOn}
 use Rattle.laws.specs.Bits.{bit}
-use Rattle.quantity.specs.Units.{wattHours, units, centiKilowatts, readingOf, demandOf}
-use Rattle.registers.specs.Energy.{pulsesOf, runningFrom}
+use Rattle.quantity.specs.Units.{milliwattHours, wattHours, units, centiKilowatts, readingOf, kwhOf, demandOf}
+use Rattle.registers.specs.Energy.{pulsesOf, runningFrom, noEnergy}
 use Rattle.store.specs.declared.Class.{Class}
 use Rattle.store.specs.declared.Class.the-variants.{A, B, C, D, Blank}
 use Rattle.store.specs.Class.{daysOf}
@@ -46,9 +46,12 @@ full = lent 960 20 60
 abbrev pub short : Store
 short = lent 959 20 60
 
--- class a, set up at a time with this total, counter value and weight, lent a store of zeros
+-- class a, set up at a time with this total, counter value and weight, lent a store of zeros: total and weight in watt-hours, and in thousandths of one
 abbrev pub meter : ℕ → ℕ → ℕ → ℕ → Mem
 meter time total last weight = setUp (given ident A (wattHours weight) time (wattHours total) last) full .after
+
+abbrev pub fine : ℕ → ℕ → ℕ → ℕ → Mem
+fine time total last weight = setUp (given ident A (milliwattHours weight) time (milliwattHours total) last) full .after
 
 -- the same with demands and a reset count
 abbrev pub demands : ℕ → ℕ → ℕ → Mem
@@ -65,12 +68,16 @@ total x = x .recorder .energy .total .0
 abbrev pub reading : Mem → ℕ
 reading x = readingOf (x .recorder .energy .total) .0
 
+-- the kWh register, and that of rate 1
+abbrev pub registers : Mem → List ℕ
+registers x = kwhOf (x .recorder .energy .total) .0 ∷ kwhOf (getD (x .recorder .energy .rates) 0 noEnergy) .0 ∷ []
+
 abbrev pub next : Mem → Event → Mem
 next x e = step x e .after
 
--- the answer to a set-up: identifier, class, weight, start time, start total, and the store
+-- the answer to a set-up: identifier, class, weight, start time, start total, and the store; in thousandths, here and below
 abbrev pub begins : List ℕ → Class → ℕ → ℕ → ℕ → Store → ℕ
-begins id class weight time total x = setUp (given id class (wattHours weight) time (wattHours total) 0) x .answer
+begins id class weight time total x = setUp (given id class (milliwattHours weight) time (milliwattHours total) 0) x .answer
 
 -- set-up with each of some characters at a place of the identifier: PPP is 0 to 2, M 3, YY 4 and 5, XXXXXX 6 to 11. The characters are the ends of 0-9 and of A-Z with their
 -- neighbours, and the ends of the small letters: / 0 9 : @ A Z [ a z
@@ -92,7 +99,7 @@ abbrev pub named : List ℕ → ℕ → ℕ
 named id weight =
     reverses
     (record {
-      identity = record { identifier = id; class = A; weight = wattHours weight };
+      identity = record { identifier = id; class = A; weight = milliwattHours weight };
       clock = sound .clock;
       energy = sound .energy;
       demand = sound .demand;
@@ -105,7 +112,7 @@ timed time days = reverses (withClock (record { time = time; on = true; days = d
 abbrev pub measured : ℕ → ℕ → ℕ → ℕ → ℕ
 measured total rate place register =
     reverses
-    (withEnergy (record { total = wattHours total; last = 0; rate = rate; rates = set (replicate 8 (wattHours 0)) place (wattHours register) }) sound)
+    (withEnergy (record { total = milliwattHours total; last = 0; rate = rate; rates = set (replicate 8 noEnergy) place (milliwattHours register) }) sound)
 
 abbrev pub demanded : ℕ → ℕ → ℕ → ℕ → ℕ → ℕ
 demanded current previous cumulative reset count =
@@ -133,15 +140,15 @@ answers x es = map (answerOf x) es
 
 abbrev pub cases : List Case
 cases =
-    -- last 4294967290, c 5, weight 10: 11 pulses, 110 Wh
-    record { given = pulsesOf 4294967290 5 ∷ answerOf (meter 0 0 4294967290 10) (Count 5) ∷ total (next (meter 0 0 4294967290 10) (Count 5)) ∷ []; due = 11 ∷ 0 ∷ 110 ∷ [] }
+    -- last 4294967290, c 5, 10 Wh a pulse: 11 pulses, 110 Wh
+    record { given = pulsesOf 4294967290 5 ∷ answerOf (meter 0 0 4294967290 10) (Count 5) ∷ total (next (meter 0 0 4294967290 10) (Count 5)) ∷ []; due = 11 ∷ 0 ∷ 110000 ∷ [] }
     -- c equal to last: accepted, 0 Wh
-    ∷ record { given = answerOf (meter 0 7 77 10) (Count 77) ∷ total (next (meter 0 7 77 10) (Count 77)) ∷ []; due = 0 ∷ 7 ∷ [] }
-    -- total 0, weight 10, 9,999 / 10,000 pulses: accepted / 3
+    ∷ record { given = answerOf (meter 0 7 77 10) (Count 77) ∷ total (next (meter 0 7 77 10) (Count 77)) ∷ []; due = 0 ∷ 7000 ∷ [] }
+    -- total 0, 10 Wh a pulse, 9,999 / 10,000 pulses: accepted / 3
     ∷ record { given = answerOf (meter 0 0 0 10) (Count 9999) ∷ answerOf (meter 0 0 0 10) (Count 10000) ∷ []; due = 0 ∷ 3 ∷ [] }
-    -- total 9, weight 1, 99,990 / 99,991 pulses: accepted / 3
+    -- total 9 Wh, 1 Wh a pulse, 99,990 / 99,991 pulses: accepted / 3
     ∷ record { given = answerOf (meter 0 9 0 1) (Count 99990) ∷ answerOf (meter 0 9 0 1) (Count 99991) ∷ []; due = 0 ∷ 3 ∷ [] }
-    -- total 999,999,995, 10 Wh more: reading 99999999 to 00000000, advance 1
+    -- total 999,999,995 Wh, 10 Wh more: reading 99999999 to 00000000, advance 1
     ∷ record {
       given = reading (meter 0 999999995 0 10) ∷ reading (next (meter 0 999999995 0 10) (Count 1))
           ∷ advanced (run (meter 0 999999995 0 10) (Count 1 ∷ Clock 1800 ∷ [])) 0 1 ∷ [];
@@ -169,6 +176,45 @@ cases =
       given = flagsWord (run (meter 85800 0 0 1) (Off ∷ On 173400 ∷ [])) 0 ∷ flagsWord (run (meter 85800 0 0 1) (Off ∷ On 173400 ∷ [])) 1
           ∷ flagsWord (run (meter 85800 0 0 1) (Off ∷ On 173400 ∷ [])) 2 ∷ flagsWord (run (meter 85800 0 0 1) (Off ∷ On 173400 ∷ [])) 3 ∷ [];
       due = 128 ∷ 128 ∷ 128 ∷ 0 ∷ [];
+    }
+    -- 1.250 Wh a pulse, 800 pulses a kWh. 7 / 8 pulses: reading 0 / 1
+    ∷ record { given = reading (next (fine 0 0 0 1250) (Count 7)) ∷ reading (next (fine 0 0 0 1250) (Count 8)) ∷ []; due = 0 ∷ 1 ∷ [] }
+    -- 79,999 pulses, 99,998.750 Wh: 9,999 units; 80,000: 3
+    ∷ record {
+      given = answerOf (fine 0 0 0 1250) (Count 79999) ∷ reading (next (fine 0 0 0 1250) (Count 79999)) ∷ answerOf (fine 0 0 0 1250) (Count 80000) ∷ [];
+      due = 0 ∷ 9999 ∷ 3 ∷ [];
+    }
+    -- 5 pulses, 00:30, 5 more, 01:00: 6.250 Wh stay in the total over the boundary, so that the values are 0 and 1
+    ∷ record {
+      given = valueOf (run (fine 0 0 0 1250) (Count 5 ∷ Clock 1800 ∷ Count 10 ∷ Clock 3600 ∷ [])) 0 0
+          ∷ valueOf (run (fine 0 0 0 1250) (Count 5 ∷ Clock 1800 ∷ Count 10 ∷ Clock 3600 ∷ [])) 0 1
+          ∷ total (run (fine 0 0 0 1250) (Count 5 ∷ Clock 1800 ∷ Count 10 ∷ Clock 3600 ∷ [])) ∷ [];
+      due = 0 ∷ 1 ∷ 12500 ∷ [];
+    }
+    -- total 999,999,998.750 Wh, one pulse: total 0, reading 99999999 to 00000000, advance 1
+    ∷ record {
+      given = reading (fine 0 999999998750 0 1250) ∷ total (next (fine 0 999999998750 0 1250) (Count 1)) ∷ reading (next (fine 0 999999998750 0 1250) (Count 1))
+          ∷ advanced (run (fine 0 999999998750 0 1250) (Count 1 ∷ Clock 1800 ∷ [])) 0 1 ∷ [];
+      due = 99999999 ∷ 0 ∷ 0 ∷ 1 ∷ [];
+    }
+    -- 799 / 800 pulses: kWh register and that of rate 1 000000 / 000001
+    ∷ record { given = registers (next (fine 0 0 0 1250) (Count 799)) ++ registers (next (fine 0 0 0 1250) (Count 800)); due = 0 ∷ 0 ∷ 1 ∷ 1 ∷ [] }
+    -- the least weight, 0.001 Wh, total 9.999 Wh: 99,990,000 pulses, reading 9,999; one more: 3
+    ∷ record {
+      given = answerOf (fine 0 9999 0 1) (Count 99990000) ∷ reading (next (fine 0 9999 0 1) (Count 99990000)) ∷ answerOf (fine 0 9999 0 1) (Count 99990001) ∷ [];
+      due = 0 ∷ 9999 ∷ 3 ∷ [];
+    }
+    -- the greatest, 100 Wh: 999 pulses, 9,990 units; 1,000, and as many as there can be: 3
+    ∷ record {
+      given = answerOf (fine 0 0 0 100000) (Count 999) ∷ reading (next (fine 0 0 0 100000) (Count 999)) ∷ answerOf (fine 0 0 0 100000) (Count 1000)
+          ∷ answerOf (fine 0 0 0 100000) (Count 4294967295) ∷ [];
+      due = 0 ∷ 9990 ∷ 3 ∷ 3 ∷ [];
+    }
+    -- the ends of demand 3's bound. From 0, one pulse of 9.999 Wh: advance 0, 9.999 Wh short; from 9.999 Wh, one of 0.001 Wh: advance 1, 9.999 Wh over
+    ∷ record {
+      given = advanced (run (fine 0 0 0 9999) (Count 1 ∷ Clock 1800 ∷ [])) 0 1 ∷ total (next (fine 0 0 0 9999) (Count 1))
+          ∷ advanced (run (fine 0 9999 0 1) (Count 1 ∷ Clock 1800 ∷ [])) 0 1 ∷ total (next (fine 0 9999 0 1) (Count 1)) ∷ [];
+      due = 0 ∷ 9999 ∷ 1 ∷ 10000 ∷ [];
     }
     -- Meter and Reset flag the day 0x40 and 0x20
     ∷ record { given = flagsWord (next (meter 0 0 0 1) (Meter 7)) 0 ∷ flagsWord (next (meter 0 0 0 1) Reset) 0 ∷ []; due = 64 ∷ 32 ∷ [] }
@@ -221,34 +267,34 @@ cases =
     ∷ record { given = endsAt 9; due = 6 ∷ 0 ∷ 0 ∷ 6 ∷ 6 ∷ 0 ∷ 0 ∷ 6 ∷ 6 ∷ 6 ∷ [] }
     ∷ record { given = endsAt 10; due = 6 ∷ 0 ∷ 0 ∷ 6 ∷ 6 ∷ 0 ∷ 0 ∷ 6 ∷ 6 ∷ 6 ∷ [] }
     ∷ record { given = endsAt 11; due = 6 ∷ 0 ∷ 0 ∷ 6 ∷ 6 ∷ 0 ∷ 0 ∷ 6 ∷ 6 ∷ 6 ∷ [] }
-    -- set-up values at their ends: weight 0, 1, 100, 101
-    ∷ record { given = begins ident A 0 0 0 full ∷ begins ident A 1 0 0 full ∷ begins ident A 100 0 0 full ∷ begins ident A 101 0 0 full ∷ []; due = 6 ∷ 0 ∷ 0 ∷ 6 ∷ [] }
+    -- set-up values at their ends: weight 0, 1, 100,000, 100,001
+    ∷ record { given = begins ident A 0 0 0 full ∷ begins ident A 1 0 0 full ∷ begins ident A 100000 0 0 full ∷ begins ident A 100001 0 0 full ∷ []; due = 6 ∷ 0 ∷ 0 ∷ 6 ∷ [] }
     -- start time: the last second of 2099 and the next
     ∷ record { given = begins ident A 1 3155759999 0 full ∷ begins ident A 1 3155760000 0 full ∷ []; due = 0 ∷ 6 ∷ [] }
-    -- start total 999,999,999 and 1,000,000,000
-    ∷ record { given = begins ident A 1 0 999999999 full ∷ begins ident A 1 0 1000000000 full ∷ []; due = 0 ∷ 6 ∷ [] }
+    -- start total 999,999,999,999 and 1,000,000,000,000
+    ∷ record { given = begins ident A 1 0 999999999999 full ∷ begins ident A 1 0 1000000000000 full ∷ []; due = 0 ∷ 6 ∷ [] }
     -- a small letter in the identifier; no real class, with the store of no days
     ∷ record { given = begins small A 1 0 0 full ∷ begins ident Blank 1 0 0 (lent 0 0 0) ∷ []; due = 6 ∷ 6 ∷ [] }
     -- set-up, 6 before 4: each of these with a store of another length; and with that alone
     ∷ record {
-      given = begins small A 1 0 0 short ∷ begins ident Blank 1 0 0 short ∷ begins ident A 0 0 0 short ∷ begins ident A 101 0 0 short
-          ∷ begins ident A 1 3155760000 0 short ∷ begins ident A 1 0 1000000000 short ∷ begins ident A 1 0 0 short ∷ [];
+      given = begins small A 1 0 0 short ∷ begins ident Blank 1 0 0 short ∷ begins ident A 0 0 0 short ∷ begins ident A 100001 0 0 short
+          ∷ begins ident A 1 3155760000 0 short ∷ begins ident A 1 0 1000000000000 short ∷ begins ident A 1 0 0 short ∷ [];
       due = 6 ∷ 6 ∷ 6 ∷ 6 ∷ 6 ∷ 6 ∷ 4 ∷ [];
     }
-    -- a recorder's fields at the ends of their ranges, and past them. A small letter in the identifier; weight 0, 1, 100, 101
-    ∷ record { given = named small 1 ∷ named ident 0 ∷ named ident 1 ∷ named ident 100 ∷ named ident 101 ∷ []; due = 5 ∷ 5 ∷ 0 ∷ 0 ∷ 5 ∷ [] }
+    -- a recorder's fields at the ends of their ranges, and past them. A small letter in the identifier; weight 0, 1, 100,000, 100,001
+    ∷ record { given = named small 1 ∷ named ident 0 ∷ named ident 1 ∷ named ident 100000 ∷ named ident 100001 ∷ []; due = 5 ∷ 5 ∷ 0 ∷ 0 ∷ 5 ∷ [] }
     -- time: the last second of 2099 and the next
     ∷ record { given = timed 3155759999 1 ∷ timed 3155760000 1 ∷ []; due = 0 ∷ 5 ∷ [] }
     -- days stored, on 2000-01-21: 0, 1, 20, 21; and 2 in the last second of 2000-01-01, in the next
     ∷ record { given = timed 1728000 0 ∷ timed 1728000 1 ∷ timed 1728000 20 ∷ timed 1728000 21 ∷ timed 86399 2 ∷ timed 86400 2 ∷ []; due = 5 ∷ 0 ∷ 0 ∷ 5 ∷ 5 ∷ 0 ∷ [] }
-    -- total 999,999,999 and 1,000,000,000; active rate 0, 1, 8, 9
+    -- total 999,999,999,999 and 1,000,000,000,000; active rate 0, 1, 8, 9
     ∷ record {
-      given = measured 999999999 1 0 0 ∷ measured 1000000000 1 0 0 ∷ measured 0 0 0 0 ∷ measured 0 1 0 0 ∷ measured 0 8 0 0 ∷ measured 0 9 0 0 ∷ [];
+      given = measured 999999999999 1 0 0 ∷ measured 1000000000000 1 0 0 ∷ measured 0 0 0 0 ∷ measured 0 1 0 0 ∷ measured 0 8 0 0 ∷ measured 0 9 0 0 ∷ [];
       due = 0 ∷ 5 ∷ 5 ∷ 0 ∷ 0 ∷ 5 ∷ [];
     }
-    -- each of the eight rate registers 999,999,999; and 1,000,000,000
-    ∷ record { given = map (λ (place : ℕ). measured 0 1 place 999999999) (0 ∷ 1 ∷ 2 ∷ 3 ∷ 4 ∷ 5 ∷ 6 ∷ 7 ∷ []); due = replicate 8 0 }
-    ∷ record { given = map (λ (place : ℕ). measured 0 1 place 1000000000) (0 ∷ 1 ∷ 2 ∷ 3 ∷ 4 ∷ 5 ∷ 6 ∷ 7 ∷ []); due = replicate 8 5 }
+    -- each of the eight rate registers 999,999,999,999; and 1,000,000,000,000
+    ∷ record { given = map (λ (place : ℕ). measured 0 1 place 999999999999) (0 ∷ 1 ∷ 2 ∷ 3 ∷ 4 ∷ 5 ∷ 6 ∷ 7 ∷ []); due = replicate 8 0 }
+    ∷ record { given = map (λ (place : ℕ). measured 0 1 place 1000000000000) (0 ∷ 1 ∷ 2 ∷ 3 ∷ 4 ∷ 5 ∷ 6 ∷ 7 ∷ []); due = replicate 8 5 }
     -- current, previous and cumulative demand 999,999, reset date 2099-12-31, reset count 99; and one more of each by itself
     ∷ record {
       given = demanded 999999 999999 999999 36525 99 ∷ demanded 1000000 0 0 0 0 ∷ demanded 0 1000000 0 0 0 ∷ demanded 0 0 1000000 0 0

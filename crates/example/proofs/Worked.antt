@@ -13,6 +13,7 @@ use Rattle.laws.proofs.Bools.{iff-trans}
 use Rattle.laws.proofs.Lists.{member-at, length-map}
 use Rattle.laws.proofs.Split.{by-dec}
 use Rattle.laws.proofs.Tests.{same-count}
+use Rattle.quantity.specs.Units.{wattHours}
 use Rattle.calendar.specs.Clock.{endedOn}
 use Rattle.calendar.proofs.Times.{ended-formula}
 use Rattle.days.specs.Day.{Half, History, isHeld, halfAt, count}
@@ -111,7 +112,7 @@ values : h .half 0 0 .value ∷ h .half 0 1 .value ∷ h .half 0 2 .value ∷ h 
 unfolding opens-paper
 values = refl
 
-energy : counted meter lent calls 0 96 ≡ 1200
+energy : counted meter lent calls 0 96 ≡ wattHours 1200 .0
 unfolding opens-paper
 energy = refl
 

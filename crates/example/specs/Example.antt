@@ -91,6 +91,6 @@ pub record Worked : Type 0 where
   pub third : IsDay 2 0 120 0
   pub values : valueAt 0 0 ∷ valueAt 0 1 ∷ valueAt 0 2 ∷ valueAt 0 47 ∷ valueAt 1 0 ∷ [] ≡ 50 ∷ 50 ∷ 120 ∷ 120 ∷ 120 ∷ []
   pub missing : missingOf held 2 ≡ record { answer = 0; first = 0; count = 48 }
-  -- 120 pulses are 1,200 Wh, and ten times the advances of both days comes to that
-  pub energy : counted meter lent calls 0 96 ≡ 1200
-  pub advanced : unitOf * advances (heldOn held) 0 96 ≡ 1200
+  -- 120 pulses are 1,200 Wh, and the advances of both days, at 10 Wh each, come to that
+  pub energy : counted meter lent calls 0 96 ≡ wattHours 1200 .0
+  pub advanced : unitOf * advances (heldOn held) 0 96 ≡ wattHours 1200 .0

@@ -17,7 +17,7 @@ use Rattle.laws.proofs.Bools.{both}
 use Rattle.laws.proofs.Lists.{set-keeps}
 use Rattle.laws.proofs.Split.{by-test, by-dec}
 use Rattle.laws.proofs.Tests.{allTrue-each}
-use Rattle.quantity.specs.declared.WattHours.{WattHours}
+use Rattle.quantity.specs.declared.MilliwattHours.{MilliwattHours}
 use Rattle.quantity.specs.Units.{totalRound, lastFour}
 use Rattle.registers.specs.declared.Demand.{Demand}
 use Rattle.registers.specs.declared.Energy.{Energy}
@@ -58,7 +58,7 @@ kept-count r c g =
         total = omega arith;
         low = g .energy .low;
         high = g .energy .high;
-        rates = λ i l. set-keeps (λ (w : WattHours). w .0 < totalRound) (r .energy .rates) (r .energy .rate - 1) _ noEnergy i (omega arith) (g .energy .rates i l);
+        rates = λ i l. set-keeps (λ (w : MilliwattHours). w .0 < totalRound) (r .energy .rates) (r .energy .rate - 1) _ noEnergy i (omega arith) (g .energy .rates i l);
       };
       demand = g .demand;
       base = g .base;

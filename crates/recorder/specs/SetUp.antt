@@ -8,7 +8,7 @@ use lib.ListN.{length, replicate}
 use Rattle.format.specs.Identifier.{identLength, identOk}
 use Rattle.laws.specs.Checks.{Check, check, firstFailing}
 use Rattle.laws.specs.Tests.{allTrue}
-use Rattle.quantity.specs.declared.WattHours.{WattHours}
+use Rattle.quantity.specs.declared.MilliwattHours.{MilliwattHours}
 use Rattle.quantity.specs.Units.{totalRound, readingOf, lastFour}
 use Rattle.registers.specs.declared.Energy.{Energy}
 use Rattle.registers.specs.declared.Present.{Present}
@@ -24,7 +24,7 @@ use Rattle.recorder.specs.declared.SetUp.{SetUp}
 use Rattle.recorder.specs.Recorder.{Identity, Recorder, Mem}
 use Rattle.recorder.specs.Step.{Done}
 
-abbrev pub given : List ℕ → Class → WattHours → ℕ → WattHours → ℕ → SetUp
+abbrev pub given : List ℕ → Class → MilliwattHours → ℕ → MilliwattHours → ℕ → SetUp
 given identifier class weight time total counter =
     record { identifier = identifier; class = class; weight = weight; time = time; total = total; counter = counter }
 

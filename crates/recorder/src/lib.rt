@@ -11,7 +11,7 @@ ghost use Rattle.recorder.specs.Range.{identityTests, registerTests, inR
 mod set_up;
 mod step;
 
-use quantity::WattHours;
+use quantity::MilliwattHours;
 use registers::Demand;
 use registers::Energy;
 use registers::Present;
@@ -21,7 +21,7 @@ use store::Class;
 pub struct Identity {
     pub identifier: [u8; 12],
     pub class: Class,
-    pub weight: WattHours,
+    pub weight: MilliwattHours,
 }
 
 pub struct Recorder {
@@ -55,9 +55,9 @@ pub struct Stepped {
 pub struct SetUp {
     pub identifier: [u8; 12],
     pub class: Class,
-    pub weight: WattHours,
+    pub weight: MilliwattHours,
     pub time: u64,
-    pub total: WattHours,
+    pub total: MilliwattHours,
     pub counter: u32,
 }
 

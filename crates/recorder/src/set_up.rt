@@ -10,7 +10,7 @@ use crate::Recorder;
 use crate::SetUp;
 use crate::Stepped;
 use crate::identifier_ok;
-use quantity::WattHours;
+use quantity::MilliwattHours;
 use registers::Demand;
 use registers::Energy;
 use registers::Present;
@@ -92,9 +92,9 @@ impl Recorder {
     pub fn set_up(
         identifier: [u8; 12],
         class: Class,
-        weight: WattHours,
+        weight: MilliwattHours,
         time: u64,
-        total: WattHours,
+        total: MilliwattHours,
         counter: u32,
         values: &mut [u16],
         starts: &mut [u32],
@@ -134,13 +134,13 @@ impl Recorder {
         let identity = Identity {
             identifier: [0; 12],
             class: Class::Blank,
-            weight: WattHours(0),
+            weight: MilliwattHours(0),
         };
         let clock = Present {
             time: 0,
             on: false,
             days: 0,
         };
-        Recorder::started(identity, clock, Energy::from(WattHours(0), 0, 0))
+        Recorder::started(identity, clock, Energy::from(MilliwattHours(0), 0, 0))
     }
 }

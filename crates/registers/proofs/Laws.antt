@@ -8,8 +8,8 @@ use native.Mathlib.Nat.{mul-le-mul}
 use native.Mathlib.Omega.{arith}
 use lib.ListN.{getD, set}
 use Rattle.quantity.specs.declared.RegisterUnits.{RegisterUnits}
-use Rattle.quantity.specs.declared.WattHours.{WattHours}
-use Rattle.quantity.specs.Units.{wattHours, units, readingOf, readingGap, energySum}
+use Rattle.quantity.specs.declared.MilliwattHours.{MilliwattHours}
+use Rattle.quantity.specs.Units.{milliwattHours, units, readingOf, readingGap, energySum}
 use Rattle.registers.specs.declared.Energy.{Energy}
 use Rattle.registers.specs.Energy.{Countable, noEnergy, mostWeight, mostPulses, mostAdded, pulsesOf, addedOf, unitsWith, energyCounted}
 
@@ -17,25 +17,25 @@ use Rattle.registers.specs.Energy.{Countable, noEnergy, mostWeight, most
 pub wrapped : (c last p : ℕ) → c < 2 ^ 32 → last < 2 ^ 32 → p < 2 ^ 32 → (p + last) % 2 ^ 32 ≡ c → p ≡ pulsesOf last c
 wrapped c last p hc hl hp e = omega arith
 
-pub added-few : (w : WattHours) (e : Energy) (p : ℕ) → Countable w e → p < 2 ^ 32 → p * w .0 ≤ mostAdded
+pub added-few : (w : MilliwattHours) (e : Energy) (p : ℕ) → Countable w e → p < 2 ^ 32 → p * w .0 ≤ mostAdded
 added-few w e p g h = mul-le-mul {n₂ = mostPulses} {m₂ = mostWeight} (omega arith) (g .weight)
 
-pub added-fits : (w : WattHours) (e : Energy) (p : ℕ) → Countable w e → p < 2 ^ 32 → Fits w64 (p * w .0)
+pub added-fits : (w : MilliwattHours) (e : Energy) (p : ℕ) → Countable w e → p < 2 ^ 32 → Fits w64 (p * w .0)
 added-fits w e p g h = let q = added-few w e p g h in omega arith
 
 -- a Count: the total and the active rate's register with what is added
-pub counted-is : (w : WattHours) (c : ℕ) (e : Energy) (more total register : WattHours) → more ≡ addedOf w (e .last) c → total ≡ energySum (e .total) more
+pub counted-is : (w : MilliwattHours) (c : ℕ) (e : Energy) (more total register : MilliwattHours) → more ≡ addedOf w (e .last) c → total ≡ energySum (e .total) more
     → register ≡ energySum (getD (e .rates) (e .rate - 1) noEnergy) more
     → record { total = total; last = c; rate = e .rate; rates = set (e .rates) (e .rate - 1) register } ≡ energyCounted w c e
 unfolding energyCounted
 counted-is w c e more total register p q r = rw (q, r, p)
 
 -- the units after a count, as the code reckons them: the sum fits, they are no fewer than now, and they are what is defined
-module _ (w : WattHours) (e : Energy) (g : Countable w e) (more : WattHours) (few : more .0 ≤ mostAdded) where
+module _ (w : MilliwattHours) (e : Energy) (g : Countable w e) (more : MilliwattHours) (few : more .0 ≤ mostAdded) where
   pub sum-fits : Fits w64 (e .total .0 + more .0)
   sum-fits = omega (arith, g .total)
 
-  module _ (now then : RegisterUnits) (a : now ≡ readingOf (e .total)) (b : then ≡ readingOf (wattHours (e .total .0 + more .0))) where
+  module _ (now then : RegisterUnits) (a : now ≡ readingOf (e .total)) (b : then ≡ readingOf (milliwattHours (e .total .0 + more .0))) where
     pub then-more : now .0 ≤ then .0
     then-more = omega (arith, ap number a, ap number b)
       where

@@ -9,8 +9,8 @@ ghost use Rattle.calendar.specs.Calendar.{daysInAll};
 ghost use Rattle.calendar.specs.Clock.{secondsOfDay, secondsOfHalf, timesInAll};
 ghost use Rattle.registers.specs.Present.{halvesInAll};
 use quantity::CentiKilowatts;
+use quantity::MilliwattHours;
 use quantity::RegisterUnits;
-use quantity::WattHours;
 
 // The present time, whether power is on, and the days stored.
 pub struct Present {
@@ -27,10 +27,10 @@ pub struct Running {
 }
 
 pub struct Energy {
-    pub total: WattHours,
+    pub total: MilliwattHours,
     pub last: u32,
     pub rate: u32,
-    pub rates: [WattHours; 8],
+    pub rates: [MilliwattHours; 8],
 }
 
 pub struct Demand {
@@ -43,7 +43,7 @@ pub struct Demand {
 
 const LEAST_WEIGHT: u64 = 1;
 
-const MOST_WEIGHT: u64 = 100;
+const MOST_WEIGHT: u64 = 100000;
 
 const RATES: u32 = 8;
 
@@ -94,8 +94,8 @@ impl Present {
     }
 }
 
-// Whether so many watt-hours may be a pulse.
-pub fn weight_ok(weight: WattHours) -> bool
+// Whether so many thousandths of a watt-hour may be a pulse.
+pub fn weight_ok(weight: MilliwattHours) -> bool
     ensures { λ r. ⌜ r ≡ weightOk weight ⌝ }
 {
     (LEAST_WEIGHT <= weight.0) & (weight.0 <= MOST_WEIGHT)
@@ -114,7 +114,7 @@ fn pulses(last: u32, c: u32) -> u32
     std::num::wrapping_sub_u32(c, last)
 }
 
-fn rates_ok(rates: [WattHours; 8]) -> bool
+fn rates_ok(rates: [MilliwattHours; 8]) -> bool
     ensures { λ r. ⌜ r ≡ ratesOk rates ⌝ }
 {
     let mut i = 0;
@@ -136,14 +136,14 @@ impl Energy {
     }
 
     // Registers that begin at a total.
-    pub fn from(total: WattHours, last: u32, rate: u32) -> Energy
+    pub fn from(total: MilliwattHours, last: u32, rate: u32) -> Energy
         ensures { λ r. ⌜ r ≡ energyFrom total last rate ⌝ }
     {
         Energy {
             total: total,
             last: last,
             rate: rate,
-            rates: [WattHours(0); 8],
+            rates: [MilliwattHours(0); 8],
         }
     }
 
@@ -170,15 +170,15 @@ impl Energy {
     }
 
     // The energy of the pulses since the last count.
-    fn added(self, weight: WattHours, c: u32) -> WattHours
+    fn added(self, weight: MilliwattHours, c: u32) -> MilliwattHours
         requires { ⌜ Countable weight self ⌝ }
         ensures { λ r. ⌜ (r ≡ addedOf weight (self .last) c) × (r .0 ≤ mostAdded) ⌝ }
     {
-        WattHours((pulses(self.last, c) as u64) * weight.0)
+        MilliwattHours((pulses(self.last, c) as u64) * weight.0)
     }
 
     // The running half-hour's units after Count(c), from the reading at its start.
-    pub fn units_with(self, weight: WattHours, base: RegisterUnits, c: u32) -> RegisterUnits
+    pub fn units_with(self, weight: MilliwattHours, base: RegisterUnits, c: u32) -> RegisterUnits
         requires { ⌜ Countable weight self ⌝ }
         ensures { λ r. ⌜ r ≡ units (unitsWith weight base c self) ⌝ }
     {
@@ -186,13 +186,13 @@ impl Energy {
         let added = self.added(weight, c);
         let reading = total.reading();
         let passed = reading.gap_from(base);
-        let sum = WattHours(total.0 + added.0);
+        let sum = MilliwattHours(total.0 + added.0);
         let then = sum.reading();
         RegisterUnits(passed.0 + (then.0 - reading.0))
     }
 
     // Count(c).
-    pub fn counted(mut self, weight: WattHours, c: u32) -> Energy
+    pub fn counted(mut self, weight: MilliwattHours, c: u32) -> Energy
         requires { ⌜ Countable weight self ⌝ }
         ensures { λ r. ⌜ r ≡ energyCounted weight c self ⌝ }
     {

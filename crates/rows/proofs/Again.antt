@@ -11,7 +11,7 @@ use lib.Seq.{ext-getD, getD-append-add}
 use Rattle.laws.specs.Bits.{bit}
 use Rattle.laws.specs.Table.{table}
 use Rattle.laws.proofs.Table.{length-table, table-at, table-of}
-use Rattle.quantity.specs.Units.{wattHours, kilowattHours}
+use Rattle.quantity.specs.Units.{milliwattHours, kilowattHours}
 use Rattle.format.specs.Identifier.{letterOf}
 use Rattle.block.specs.declared.Header.{Header}
 use Rattle.store.specs.declared.Class.{Class}
@@ -92,10 +92,10 @@ module _ (r : Recorder) where
   registers-again : length (r .energy .rates) ≡ 8 → table 8 (registerIn (recorderRow r)) ≡ r .energy .rates
   unfolding registerIn registerOf
   registers-again len =
-      ext-getD (wattHours 0) (table 8 (registerIn (recorderRow r))) (r .energy .rates) (length-table 8 (registerIn (recorderRow r)) ∙ sym len)
+      ext-getD (milliwattHours 0) (table 8 (registerIn (recorderRow r))) (r .energy .rates) (length-table 8 (registerIn (recorderRow r)) ∙ sym len)
       (λ i h.
       let k : i < 8 = omega (arith, length-table 8 (registerIn (recorderRow r))) in
-      table-at 8 (registerIn (recorderRow r)) i (wattHours 0) k ∙ ap wattHours (register i k))
+      table-at 8 (registerIn (recorderRow r)) i (milliwattHours 0) k ∙ ap milliwattHours (register i k))
 
   letters-back : RecorderFits r → table 12 (letterIn (recorderRow r)) ≡ r .identity .identifier
   unfolding recorderRow

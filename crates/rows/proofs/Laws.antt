@@ -13,9 +13,9 @@ use Rattle.laws.specs.Bits.{bit}
 use Rattle.laws.specs.Table.{table}
 use Rattle.laws.proofs.Table.{length-table}
 use Rattle.laws.proofs.Rows.{row-side}
-use Rattle.quantity.specs.declared.WattHours.{WattHours}
+use Rattle.quantity.specs.declared.MilliwattHours.{MilliwattHours}
 use Rattle.quantity.specs.declared.KilowattHours.{KilowattHours}
-use Rattle.quantity.specs.Units.{wattHours, units, kilowattHours, centiKilowatts}
+use Rattle.quantity.specs.Units.{milliwattHours, units, kilowattHours, centiKilowatts}
 use Rattle.format.specs.Identifier.{letterOf}
 use Rattle.store.specs.declared.Class.{Class}
 use Rattle.store.specs.declared.Class.the-variants.{A, B, C, D, Blank}
@@ -45,9 +45,9 @@ pub letter-is : (l : List ℕ) (i x v : ℕ) → x ≡ numberIn l i → v ≡ x 
 unfolding letterIn
 letter-is l i x v e f = f ∙ rw e
 
-pub register-is : (l : List ℕ) (i x : ℕ) → x ≡ numberIn l (registersAt + i) → wattHours x ≡ registerIn l i
+pub register-is : (l : List ℕ) (i x : ℕ) → x ≡ numberIn l (registersAt + i) → milliwattHours x ≡ registerIn l i
 unfolding registerIn
-register-is l i x e = ap wattHours e
+register-is l i x e = ap milliwattHours e
 
 pub rate-is : (l : List ℕ) (i x : ℕ) → x ≡ numberIn l (ratesAt + i) → kilowattHours x ≡ rateIn l i
 unfolding rateIn
@@ -81,15 +81,15 @@ module _ (n : ℕ) where
 
 module _ (l : List ℕ) where
   pub identity-is : (id : List ℕ) (n w : ℕ) (c : Class) → id ≡ table 12 (letterIn l) → c ≡ classNumbered n → n ≡ numberIn l firstEightAt → w ≡ numberIn l (firstEightAt + 1)
-      → record { identifier = id; class = c; weight = wattHours w } ≡ identityFrom l
+      → record { identifier = id; class = c; weight = milliwattHours w } ≡ identityFrom l
   identity-is id n w c e f g h = rw (e, f, g, h)
 
   pub present-is : (t d : ℕ) (b : Bool) → t ≡ numberIn l (firstEightAt + 2) → b ≡ isIn l (firstEightAt + 3) → d ≡ smallIn l (firstEightAt + 4)
       → record { time = t; on = b; days = d } ≡ presentFrom l
   present-is t d b e f g = rw (e, f, g)
 
-  pub energy-is : (t a r : ℕ) (rs : List WattHours) → t ≡ numberIn l (firstEightAt + 5) → a ≡ smallIn l (firstEightAt + 6) → r ≡ smallIn l (firstEightAt + 7)
-      → rs ≡ table 8 (registerIn l) → record { total = wattHours t; last = a; rate = r; rates = rs } ≡ energyFrom l
+  pub energy-is : (t a r : ℕ) (rs : List MilliwattHours) → t ≡ numberIn l (firstEightAt + 5) → a ≡ smallIn l (firstEightAt + 6) → r ≡ smallIn l (firstEightAt + 7)
+      → rs ≡ table 8 (registerIn l) → record { total = milliwattHours t; last = a; rate = r; rates = rs } ≡ energyFrom l
   energy-is t a r rs e f g h = rw (e, f, g, h)
 
   pub demand-is : (a b c d n : ℕ) → a ≡ numberIn l lastEightAt → b ≡ numberIn l (lastEightAt + 1) → c ≡ numberIn l (lastEightAt + 2) → d ≡ smallIn l (lastEightAt + 3)
@@ -149,7 +149,7 @@ pub last-of : (l m : List ℕ) (r : Recorder) (b c : ℕ) → b ≡ bit (r .runn
     → m ≡ sets l lastEightAt (lastEight r)
 last-of l m r b c e f h = h ∙ rw (e, f)
 
-pub register-of : (rates : List WattHours) (i : ℕ) → getD rates i (wattHours 0) .0 ≡ registerOf rates i
+pub register-of : (rates : List MilliwattHours) (i : ℕ) → getD rates i (milliwattHours 0) .0 ≡ registerOf rates i
 unfolding registerOf
 register-of rates i = refl
 

@@ -10,9 +10,9 @@ use lib.ListN.{length, getD}
 use lib.Seq.{sets}
 use Rattle.laws.specs.Bits.{bit}
 use Rattle.laws.specs.Table.{table}
-use Rattle.quantity.specs.declared.WattHours.{WattHours}
+use Rattle.quantity.specs.declared.MilliwattHours.{MilliwattHours}
 use Rattle.quantity.specs.declared.KilowattHours.{KilowattHours}
-use Rattle.quantity.specs.Units.{wattHours, units, kilowattHours, centiKilowatts}
+use Rattle.quantity.specs.Units.{milliwattHours, units, kilowattHours, centiKilowatts}
 use Rattle.format.specs.Identifier.{identLength, letterOf}
 use Rattle.block.specs.declared.Header.{Header}
 use Rattle.store.specs.declared.Class.{Class}
@@ -38,8 +38,8 @@ classNumber C = 3
 classNumber D = 4
 classNumber Blank = 0
 
-unfoldable pub registerOf : List WattHours → ℕ → ℕ
-registerOf rates i = getD rates i (wattHours 0) .0
+unfoldable pub registerOf : List MilliwattHours → ℕ → ℕ
+registerOf rates i = getD rates i (milliwattHours 0) .0
 
 -- class, weight, time, power, days stored, total, counter's last value, active rate
 abbrev pub firstEight : Recorder → List ℕ
@@ -89,12 +89,12 @@ classNumbered n = cond (eqb n 1) A (cond (eqb n 2) B (cond (eqb n 3) C (cond (eq
 
 -- ---- a recorder out of its row
 
-unfoldable pub registerIn : List ℕ → ℕ → WattHours
-registerIn l i = wattHours (numberIn l (registersAt + i))
+unfoldable pub registerIn : List ℕ → ℕ → MilliwattHours
+registerIn l i = milliwattHours (numberIn l (registersAt + i))
 
 abbrev pub identityFrom : List ℕ → Identity
 identityFrom l =
-    record { identifier = table identLength (letterIn l); class = classNumbered (numberIn l firstEightAt); weight = wattHours (numberIn l (firstEightAt + 1)) }
+    record { identifier = table identLength (letterIn l); class = classNumbered (numberIn l firstEightAt); weight = milliwattHours (numberIn l (firstEightAt + 1)) }
 
 abbrev pub presentFrom : List ℕ → Present
 presentFrom l = record { time = numberIn l (firstEightAt + 2); on = isIn l (firstEightAt + 3); days = smallIn l (firstEightAt + 4) }
@@ -102,7 +102,7 @@ presentFrom l = record { time = numberIn l (firstEightAt + 2); on = isIn l (firs
 abbrev pub energyFrom : List ℕ → Energy
 energyFrom l =
     record {
-      total = wattHours (numberIn l (firstEightAt + 5));
+      total = milliwattHours (numberIn l (firstEightAt + 5));
       last = smallIn l (firstEightAt + 6);
       rate = smallIn l (firstEightAt + 7);
       rates = table 8 (registerIn l);

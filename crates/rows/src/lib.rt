@@ -10,8 +10,8 @@ ghost use Rattle.rows.specs.Rows.{putRow, classNumber, registerOf, first
 use block::Header;
 use quantity::CentiKilowatts;
 use quantity::KilowattHours;
+use quantity::MilliwattHours;
 use quantity::RegisterUnits;
-use quantity::WattHours;
 use recorder::Identity;
 use recorder::Recorder;
 use registers::Demand;
@@ -99,7 +99,7 @@ fn put_eight(
     out[at + 7] = h;
 }
 
-fn put_registers(out: &mut [u64], rates: [WattHours; 8])
+fn put_registers(out: &mut [u64], rates: [MilliwattHours; 8])
     requires { ⌜ recorderNumbers ≤ length (now out) ⌝ }
     ensures { λ _. ⌜ now (out .exit) ≡ sets (now (out .entry)) registersAt (table 8 (registerOf rates)) ⌝ }
 {
@@ -244,7 +244,7 @@ fn identity(row: &[u64]) -> Identity
 {
     let id = letters(row);
     let class = class_numbered(number(row, CLASS));
-    let weight = WattHours(number(row, WEIGHT));
+    let weight = MilliwattHours(number(row, WEIGHT));
     Identity {
         identifier: id,
         class: class,
@@ -262,13 +262,13 @@ fn present(row: &[u64]) -> Present
     }
 }
 
-fn registers(row: &[u64]) -> [WattHours; 8]
+fn registers(row: &[u64]) -> [MilliwattHours; 8]
     ensures { λ r. ⌜ r ≡ table 8 (registerIn (now (row .entry))) ⌝ }
 {
-    let mut rates = [WattHours(0); block::RATES];
+    let mut rates = [MilliwattHours(0); block::RATES];
     let mut i: usize = 0;
     while i < block::RATES {
-        rates[i] = WattHours(number(row, REGISTER + i));
+        rates[i] = MilliwattHours(number(row, REGISTER + i));
         i += 1;
     }
     rates
@@ -279,7 +279,7 @@ fn energy(row: &[u64]) -> Energy
 {
     let rates = registers(row);
     Energy {
-        total: WattHours(number(row, TOTAL)),
+        total: MilliwattHours(number(row, TOTAL)),
         last: small(row, LAST),
         rate: small(row, RATE),
         rates: rates,

@@ -7,12 +7,15 @@ ghost use Rattle.recorder.specs.Recorder.{mem};
 ghost use Rattle.store.specs.Store.{store};
 ghost use Rattle.timing.specs.declared.Kind.the-variants.{Counts, Clocks, Outages};
 ghost use Rattle.timing.specs.Timed.{begun, outage, nth, coming, played, totalled, totalOf, timeOf, stored, reads, readsOf};
-use quantity::WattHours;
+use quantity::MilliwattHours;
 use recorder::Event;
 use recorder::Recorder;
 use store::Class;
 
 const ALL_DAYS: u32 = Class::DAYS_D;
+
+// The weight of a pulse: 1 Wh.
+const PULSE: u64 = 1000;
 
 // Which events come, one after another.
 pub enum Kind {
@@ -56,9 +59,9 @@ fn begun(values: &mut [u16], starts: &mut [u32], marks: &mut [u64]) -> Recorder
     let s = Recorder::set_up(
         [65, 66, 67, 88, 50, 52, 48, 48, 48, 48, 49, 55],
         Class::D,
-        WattHours(1),
+        MilliwattHours(PULSE),
         0,
-        WattHours(0),
+        MilliwattHours(0),
         0,
         values,
         starts,

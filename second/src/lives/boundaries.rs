@@ -1,20 +1,19 @@
 //! Lives at every boundary: of half-hours, days, years and the calendar, of units,
 //! totals, counters, demands and counts, and of a class's days.
 
-use super::{write_into, Life, Script, IDENTIFIER, LATEST_START};
+use super::{write_into, Life, Script, FULL_HALF_HOUR, IDENTIFIER, LATEST_START, UNIT_A_PULSE, WATT_HOUR};
 use crate::block::{bytes_for, MOST_BYTES, RATES};
 use crate::calendar::{self, write_date, HALF_HOURS, LAST_DAY, LAST_TIME, SECONDS_PER_DAY, SECONDS_PER_HALF_HOUR};
 use crate::ledger;
 use crate::quantities::{
-    DEMAND_MODULUS, MOST_UNITS, RESETS_MODULUS, TOTAL_MODULUS, VALUE_MODULUS, WATT_HOURS_PER_KWH, WATT_HOURS_PER_UNIT,
+    DEMAND_MODULUS, LEAST_WEIGHT, MOST_UNITS, MOST_WEIGHT, RESETS_MODULUS, THOUSANDTHS_PER_KWH, THOUSANDTHS_PER_UNIT,
+    TOTAL_MODULUS,
 };
-use crate::recorder::{Class, LEAST_WEIGHT, MOST_ASKED, MOST_WEIGHT};
+use crate::recorder::{Class, MOST_ASKED};
 use crate::script::{KEPT_BLOCKS, MOST_NUMBER};
 
 /// A total at half a unit below the run-round.
-const LATE_TOTAL: u64 = TOTAL_MODULUS - WATT_HOURS_PER_UNIT / 2;
-/// The watt-hours of the first units that no half-hour takes.
-const FULL_HALF_HOUR: u64 = VALUE_MODULUS * WATT_HOURS_PER_UNIT;
+const LATE_TOTAL: u64 = TOTAL_MODULUS - THOUSANDTHS_PER_UNIT / 2;
 
 fn instant(text: &str) -> u64 {
     calendar::read_time(text.as_bytes()).unwrap_or(0)
@@ -59,7 +58,7 @@ pub fn instants(seed: u64) -> Script {
         for before in [1, 2, SECONDS_PER_HALF_HOUR, SECONDS_PER_HALF_HOUR - 1, SECONDS_PER_DAY + 5] {
             let Some(start) = boundary.checked_sub(before) else { continue };
             let total = life.random.below(TOTAL_MODULUS);
-            life.set_up(Class::A, 10, start, total, 0);
+            life.set_up(Class::A, UNIT_A_PULSE, start, total, 0);
             for time in [boundary - 1, boundary, boundary + 1] {
                 let pulses = life.random.below(500);
                 life.pulses(pulses);
@@ -76,7 +75,7 @@ pub fn instants(seed: u64) -> Script {
         }
     }
     // Power lost at 23:50 on the 1st, restored at 00:10 on the 3rd: three days flagged.
-    life.set_up(Class::A, 10, instant("240301120000"), 0, 0);
+    life.set_up(Class::A, UNIT_A_PULSE, instant("240301120000"), 0, 0);
     life.say_all(&[
         "clock 240301 235000",
         "off",
@@ -92,7 +91,7 @@ pub fn instants(seed: u64) -> Script {
     life.say_all(&["clock 240303 001000", "clock 240303 000959", "show"]);
     // The first two half-hours of the listing example, and its ledger in either order.
     life.say_all(&[
-        "setup ABCX24000017 a 10 240229 000000 4711000 0",
+        "setup ABCX24000017 a 10000 240229 000000 4711000000 0",
         "count 50",
         "clock 240229 003000",
         "count 130",
@@ -124,10 +123,11 @@ pub fn instants(seed: u64) -> Script {
 pub fn units(seed: u64) -> Script {
     let mut life = Life::new(seed);
     let start = instant("240229110000");
-    let unit = WATT_HOURS_PER_UNIT;
+    let unit = THOUSANDTHS_PER_UNIT;
     let totals = [
         0,
         1,
+        WATT_HOUR,
         unit / 2,
         unit - 1,
         unit,
@@ -136,9 +136,10 @@ pub fn units(seed: u64) -> Script {
         TOTAL_MODULUS - unit,
         TOTAL_MODULUS - 1,
         TOTAL_MODULUS - FULL_HALF_HOUR + 1,
-        123_456_789,
+        123_456_789_012,
     ];
-    for weight in [LEAST_WEIGHT, 2, 3, 7, unit, 11, 50, MOST_WEIGHT - 1, MOST_WEIGHT] {
+    let whole = [1, 2, 3, 7, 11, 50].map(|watt_hours| watt_hours * WATT_HOUR);
+    for weight in whole.into_iter().chain([LEAST_WEIGHT, unit, MOST_WEIGHT - 1, MOST_WEIGHT]) {
         for total in totals {
             for counter in [0, u32::MAX - 5, u32::MAX / 2] {
                 life.set_up(Class::A, weight, start, total, counter);
@@ -158,12 +159,14 @@ pub fn units(seed: u64) -> Script {
             }
         }
     }
-    for line in ["setup ABCX24000017 a 10 240229 110000 0 4294967290", "count 5", "show", "count 5", "show"] {
+    for line in ["setup ABCX24000017 a 10000 240229 110000 0 4294967290", "count 5", "show", "count 5", "show"] {
         life.say(line);
     }
     for (total, weight, pulses) in [
         (0, unit, MOST_UNITS),
         (0, unit, MOST_UNITS + 1),
+        (9 * WATT_HOUR, WATT_HOUR, 99_990),
+        (9 * WATT_HOUR, WATT_HOUR, 99_991),
         (unit - 1, 1, MOST_UNITS * unit),
         (unit - 1, 1, MOST_UNITS * unit + 1),
         (0, 1, FULL_HALF_HOUR - 1),
@@ -180,7 +183,7 @@ pub fn units(seed: u64) -> Script {
 pub fn run_rounds(seed: u64) -> Script {
     let mut life = Life::new(seed);
     // Every half-hour at its most: its demand reset, and summed past the run-round.
-    life.set_up(Class::A, 10, instant("071231000000"), LATE_TOTAL, 4_294_900_000);
+    life.set_up(Class::A, UNIT_A_PULSE, instant("071231000000"), LATE_TOTAL, 4_294_900_000);
     for half_hour in 0..120 {
         let left = life.pulses_left();
         life.pulses(left);
@@ -194,7 +197,7 @@ pub fn run_rounds(seed: u64) -> Script {
     }
     life.say_all(&["read 3", "check", "listing", "block"]);
     // Registers about their run-round.
-    let below = [1, WATT_HOURS_PER_UNIT, WATT_HOURS_PER_KWH, TOTAL_MODULUS];
+    let below = [1, WATT_HOUR, THOUSANDTHS_PER_UNIT, THOUSANDTHS_PER_KWH, TOTAL_MODULUS];
     for rate in 1..=RATES {
         life.say(format!("rate {rate}"));
         for register in below.map(|below| TOTAL_MODULUS - below) {
@@ -222,9 +225,9 @@ pub fn run_rounds(seed: u64) -> Script {
         life.say_all(&["reset", "show", "read 1", "block"]);
     }
     // Small advances round a value and a reading.
-    let unit = WATT_HOURS_PER_UNIT;
-    for total in [LATE_TOTAL, FULL_HALF_HOUR - unit * 3 / 2, TOTAL_MODULUS - WATT_HOURS_PER_KWH, 9 * unit] {
-        life.set_up(Class::A, 10, instant("240228230000"), total, u32::MAX);
+    let unit = THOUSANDTHS_PER_UNIT;
+    for total in [LATE_TOTAL, FULL_HALF_HOUR - unit * 3 / 2, TOTAL_MODULUS - THOUSANDTHS_PER_KWH, 9 * unit] {
+        life.set_up(Class::A, UNIT_A_PULSE, instant("240228230000"), total, u32::MAX);
         for _ in 0..60 {
             let pulses = life.random.below(30);
             life.pulses(pulses);
@@ -241,7 +244,7 @@ pub fn rings(seed: u64) -> Script {
     let mut life = Life::new(seed);
     let [a, b, c, d] = Class::ALL.map(|class| class.days() as u64);
     let first = life.random.between(0, 30_000);
-    life.set_up(Class::A, 10, first * SECONDS_PER_DAY + 7_000, 5_000_000, 0);
+    life.set_up(Class::A, UNIT_A_PULSE, first * SECONDS_PER_DAY + 7_000, 5_000 * THOUSANDTHS_PER_KWH, 0);
     for day in 0..2 * a + 5 {
         for _ in 0..3 {
             let pulses = life.random.below(3_000);
@@ -316,7 +319,7 @@ pub fn calendar_ends(seed: u64) -> Script {
     let most = ledger::MOST_DAYS;
     for class in Class::ALL {
         for by_on in [false, true] {
-            life.set_up(class, 10, 0, 70, 0);
+            life.set_up(class, UNIT_A_PULSE, 0, 70 * WATT_HOUR, 0);
             life.say_all(&["read 1", "check", "listing", "read 0", "block", "count 40", "access"]);
             if by_on {
                 life.say("off");
@@ -342,7 +345,7 @@ pub fn calendar_ends(seed: u64) -> Script {
         (Class::B, LAST_TIME + 1 - SECONDS_PER_HALF_HOUR),
         (Class::A, LAST_TIME - SECONDS_PER_DAY),
     ] {
-        life.set_up(class, LEAST_WEIGHT, start, TOTAL_MODULUS - 1, u32::MAX);
+        life.set_up(class, WATT_HOUR, start, TOTAL_MODULUS - 1, u32::MAX);
         for time in [LAST_TIME - 1, LAST_TIME, LAST_TIME + 1, LAST_TIME, MOST_NUMBER] {
             life.clock(time);
             life.pulses(7);
@@ -355,7 +358,7 @@ pub fn calendar_ends(seed: u64) -> Script {
     }
     // The first day: an early reading, an early ledger.
     life.say_all(&[
-        "setup ABCX24000017 d 10 000101 000000 0 0",
+        "setup ABCX24000017 d 10000 000101 000000 0 0",
         "count 5",
         "reset",
         "clock 000101 003000",
@@ -397,7 +400,7 @@ pub fn starts(seed: u64) -> Script {
             let time = day * SECONDS_PER_DAY + half_hour * SECONDS_PER_HALF_HOUR + offset;
             let total = life.random.below(TOTAL_MODULUS);
             let class = *life.random.pick(&Class::ALL);
-            life.set_up(class, 10, time, total, 9);
+            life.set_up(class, UNIT_A_PULSE, time, total, 9);
             life.say_all(&["show", "read 1", "check", "listing", "fields", &write_into(bytes_for(1)), "keep 0"]);
             life.day(day);
             life.say_all(&["count 20", "access"]);

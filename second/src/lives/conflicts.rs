@@ -1,10 +1,10 @@
 //! Blocks that say otherwise than what is held, and outstations that differ in their
 //! starts, their pulses or their identifier, filed in one ledger.
 
-use super::{write_into, Life, Script, IDENTIFIER, LATEST_START, OTHER_IDENTIFIER};
+use super::{write_into, Life, Script, IDENTIFIER, LATEST_START, OTHER_IDENTIFIER, UNIT_A_PULSE};
 use crate::block::{self, AT_IDENTIFIER, DAY_FLAGS, DAY_REVERSE, MARK_BYTES, MOST_BYTES};
 use crate::calendar::{self, HALF_HOURS, SECONDS_PER_DAY, SECONDS_PER_HALF_HOUR};
-use crate::quantities::{READING_MODULUS, TOTAL_MODULUS, VALUE_MODULUS, WATT_HOURS_PER_UNIT};
+use crate::quantities::{READING_MODULUS, THOUSANDTHS_PER_UNIT, TOTAL_MODULUS, VALUE_MODULUS};
 use crate::recorder::Class;
 
 /// Blocks that agree and blocks that differ in a start, a value, a mark or flags.
@@ -89,9 +89,9 @@ fn other_starts(life: &mut Life) {
     let seconds = [600, half_hour - 1, half_hour, 4_200, whole_day - 1, whole_day, whole_day + 3_600];
     for one in seconds {
         for two in seconds {
-            for other_total in [total, total + WATT_HOURS_PER_UNIT, total + WATT_HOURS_PER_UNIT * VALUE_MODULUS] {
+            for other_total in [total, total + THOUSANDTHS_PER_UNIT, total + THOUSANDTHS_PER_UNIT * VALUE_MODULUS] {
                 for (kept, total, seconds) in [(0, total, one), (1, other_total, two)] {
-                    life.say(format!("setup {IDENTIFIER} a 10 @{} {total} 0", day * SECONDS_PER_DAY));
+                    life.say(format!("setup {IDENTIFIER} a {UNIT_A_PULSE} @{} {total} 0", day * SECONDS_PER_DAY));
                     life.clock(day * SECONDS_PER_DAY + seconds);
                     life.say("read 2");
                     life.say(format!("keep {kept}"));
@@ -113,7 +113,7 @@ fn other_lives(life: &mut Life) {
         let total = life.random.below(TOTAL_MODULUS);
         for kept in [0, 1, 2] {
             let identifier = if kept == 2 { OTHER_IDENTIFIER } else { IDENTIFIER };
-            life.say(format!("setup {identifier} b 10 @{} {total} 0", day * SECONDS_PER_DAY));
+            life.say(format!("setup {identifier} b {UNIT_A_PULSE} @{} {total} 0", day * SECONDS_PER_DAY));
             for _ in 0..life.random.between(1, 6) {
                 let pulses = life.random.below(3);
                 life.pulses(pulses);

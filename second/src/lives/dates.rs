@@ -1,7 +1,7 @@
 //! Every day of the hundred years turned into its date and back: as a script's word, as time of reading,
 //! last reset date and date of a record; and the dates beside them that are unreal.
 
-use super::{write_into, Life, Script, IDENTIFIER};
+use super::{write_into, Life, Script, IDENTIFIER, UNIT_A_PULSE};
 use crate::block::{AT_RESET, HEADER_BYTES};
 use crate::calendar::{write_date, write_seconds, DAYS, LAST_DAY, MONTHS, SECONDS_PER_DAY, YEARS};
 use crate::recorder::Class;
@@ -12,7 +12,7 @@ const DAYS_OF_A_MONTH: [u64; 6] = [0, 28, 29, 30, 31, 32];
 /// Each day is the day of reading and of the last reset, and its date a word of Clock.
 pub fn of_reading(seed: u64) -> Script {
     let mut life = Life::new(seed);
-    life.set_up(Class::A, 10, 0, 0, 0);
+    life.set_up(Class::A, UNIT_A_PULSE, 0, 0, 0);
     for day in 0..DAYS {
         let seconds = write_seconds(life.random.below(SECONDS_PER_DAY));
         life.say(format!("clock {} {seconds}", write_date(day)));
@@ -40,7 +40,7 @@ pub fn words(seed: u64) -> Script {
 pub fn of_records(seed: u64) -> Script {
     let mut life = Life::new(seed);
     let held = Class::B.days();
-    life.set_up(Class::B, 10, 0, 0, 0);
+    life.set_up(Class::B, UNIT_A_PULSE, 0, 0, 0);
     for newest in (held as u64 - 1..LAST_DAY).step_by(held).chain([LAST_DAY]) {
         life.pulses(1);
         let time = newest * SECONDS_PER_DAY + life.random.below(SECONDS_PER_DAY);
@@ -54,7 +54,7 @@ pub fn of_records(seed: u64) -> Script {
 /// A block's last reset date, real or not: read, and where it is real written again.
 pub fn of_resets(seed: u64) -> Script {
     let mut life = Life::new(seed);
-    life.set_up(Class::A, 10, 0, 0, 0);
+    life.set_up(Class::A, UNIT_A_PULSE, 0, 0, 0);
     life.say("read 0");
     for date in dates_about_months() {
         for (at, character) in (AT_RESET..).zip(date.bytes()) {

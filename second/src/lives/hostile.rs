@@ -1,7 +1,7 @@
 //! Hostile lives: poked recorders and stores, lengths lent wrong, wrong power, bad
 //! times, rates and asks, outputs too short, the blank recorder.
 
-use super::{letter, plain_events, Life, Script, IDENTIFIER, MOST_32_BITS};
+use super::{letter, plain_events, Life, Script, IDENTIFIER, MOST_32_BITS, UNIT_A_PULSE};
 use crate::block::{
     bytes_for, AT_TIME, DAY_BYTES, DEMAND_RESET, FLAGS, FRAME_BYTES, HEADER_BYTES, LENGTH_BYTES, MARKS_MODULUS,
     METER_CHANGED, MOST_BYTES, POWER_LOST, RATES,
@@ -9,10 +9,10 @@ use crate::block::{
 use crate::calendar::{self, DAYS, HALF_HOURS, LAST_TIME, SECONDS_PER_DAY};
 use crate::identifier;
 use crate::quantities::{
-    self, DEMAND_MODULUS, MOST_UNITS, READING_MODULUS, RESETS_MODULUS, TOTAL_MODULUS, VALUE_MODULUS,
-    WATT_HOURS_PER_UNIT,
+    self, DEMAND_MODULUS, LEAST_WEIGHT, MOST_UNITS, MOST_WEIGHT, READING_MODULUS, RESETS_MODULUS, THOUSANDTHS_PER_UNIT,
+    TOTAL_MODULUS, VALUE_MODULUS,
 };
-use crate::recorder::{Class, StoreLength, FLAGS_WORD, LEAST_WEIGHT, MOST_ASKED, MOST_WEIGHT, WORDS_PER_DAY};
+use crate::recorder::{Class, StoreLength, FLAGS_WORD, MOST_ASKED, WORDS_PER_DAY};
 use crate::script::{LONGEST_STORE, MOST_NUMBER};
 
 /// Every call of the recorder, each tried with its own plain values.
@@ -59,7 +59,7 @@ pub fn set_ups(seed: u64) -> Script {
     ];
     for identifier in identifiers {
         for class in ["a", "d", "e", "A"] {
-            life.say(format!("setup {identifier} {class} 10 240229 110000 0 0"));
+            life.say(format!("setup {identifier} {class} {UNIT_A_PULSE} 240229 110000 0 0"));
             life.say_all(&["show", "access", "read 0"]);
         }
         life.say(format!("open {identifier} 240229 2"));
@@ -69,9 +69,9 @@ pub fn set_ups(seed: u64) -> Script {
     let times = [0, LAST_TIME, LAST_TIME + 1, MOST_32_BITS + 1, MOST_NUMBER].map(|time| format!("@{time}"));
     let times: Vec<String> = times.into_iter().chain([LAST_TIME, 0].map(date_and_seconds)).collect();
     for class in ["a", "b", "c", "d", "e", "z", "A", "D"] {
-        for weight in [LEAST_WEIGHT - 1, LEAST_WEIGHT, 10, MOST_WEIGHT, MOST_WEIGHT + 1, MOST_32_BITS] {
+        for weight in [LEAST_WEIGHT - 1, LEAST_WEIGHT, UNIT_A_PULSE, MOST_WEIGHT, MOST_WEIGHT + 1, MOST_32_BITS] {
             for time in &times {
-                for total in [0, TOTAL_MODULUS - 1, TOTAL_MODULUS, MOST_32_BITS] {
+                for total in [0, MOST_32_BITS + 1, TOTAL_MODULUS - 1, TOTAL_MODULUS, MOST_NUMBER] {
                     if life.random.once_in(3) {
                         let counter = *life.random.pick(&[0, MOST_32_BITS, MOST_32_BITS + 1]);
                         life.say(format!("setup {IDENTIFIER} {class} {weight} {time} {total} {counter}"));
@@ -85,13 +85,13 @@ pub fn set_ups(seed: u64) -> Script {
         let right = class.store_length();
         for lent in wrong_lengths(right) {
             life.lend(lent);
-            life.say(format!("setup {IDENTIFIER} {} 10 240229 110000 0 0", letter(class)));
+            life.say(format!("setup {IDENTIFIER} {} {UNIT_A_PULSE} 240229 110000 0 0", letter(class)));
             life.say_all(&["show", "count 0"]);
             life.say(format!("setup {IDENTIFIER} {} {} 240229 110000 0 0", letter(class), LEAST_WEIGHT - 1));
-            life.say(format!("setup {IDENTIFIER} e 10 240229 110000 0 0"));
+            life.say(format!("setup {IDENTIFIER} e {UNIT_A_PULSE} 240229 110000 0 0"));
         }
         life.lend(right);
-        life.say(format!("setup {IDENTIFIER} {} 10 240229 110000 123456789 0", letter(class)));
+        life.say(format!("setup {IDENTIFIER} {} {UNIT_A_PULSE} 240229 110000 123456789012 0", letter(class)));
         life.say_all(&["show", "day 240229", "lend", "count 4", "show"]);
         // A refused set-up leaves the store; an accepted one clears it.
         life.say("clock 240302 120000");
@@ -136,7 +136,7 @@ pub fn pokes(seed: u64) -> Script {
         ("time", &[0, 1, day - 1, day, ring, LAST_TIME, LAST_TIME + 1, MOST_32_BITS + 1, MOST_NUMBER]),
         ("power", &[0, 1]),
         ("days", &[0, 1, 2, 3, a - 1, a, a + 1, b, d, d + 1, MOST_32_BITS]),
-        ("total", &[0, WATT_HOURS_PER_UNIT - 1, TOTAL_MODULUS - 1, TOTAL_MODULUS, MOST_32_BITS]),
+        ("total", &[0, THOUSANDTHS_PER_UNIT - 1, MOST_32_BITS, TOTAL_MODULUS - 1, TOTAL_MODULUS, MOST_NUMBER]),
         ("last", &[0, MOST_32_BITS]),
         ("rate", &[0, 1, rates, rates + 1, 256, MOST_32_BITS]),
         ("current", &[0, quantities::demand(MOST_UNITS), demand - 1, demand, MOST_32_BITS]),
@@ -155,7 +155,7 @@ pub fn pokes(seed: u64) -> Script {
         }
     }
     for rate in 1..=RATES {
-        for value in [0, TOTAL_MODULUS - 1, TOTAL_MODULUS, MOST_32_BITS] {
+        for value in [0, TOTAL_MODULUS - 1, TOTAL_MODULUS, MOST_NUMBER] {
             life.lived(Class::A, 1);
             life.say(format!("rate {rate}"));
             poke_and_try(&mut life, &format!("poke register {rate} {value}"));

@@ -19,8 +19,8 @@ fn well_formed() -> Vec<String> {
     let (last_day, last_half_hour) = (block::MOST_DAYS - 1, HALF_HOURS - 1);
     let (most_value, longest_window) = (VALUE_MODULUS - 1, ledger::MOST_DAYS);
     lines(format!(
-        "setup {IDENTIFIER} a 10 240229 110000 0 0\n\
-         setup {IDENTIFIER} b 10 @762000000 5 {MOST_32_BITS}\n\
+        "setup {IDENTIFIER} a 10000 240229 110000 0 0\n\
+         setup {IDENTIFIER} b 10000 @762000000 5000 {MOST_32_BITS}\n\
          count 5\n\
          clock 240229 120000\n\
          clock @762000000\n\
@@ -194,6 +194,12 @@ fn not_understood_either() -> Vec<String> {
          poke letter {letters} 65\n\
          poke register 0 1\n\
          poke register {past_rates} 1\n\
+         poke register 1 0.5\n\
+         poke register 1 {past_most}\n\
+         poke weight 1.25\n\
+         poke weight {past_32_bits}\n\
+         poke total 0.5\n\
+         poke total {past_most}\n\
          poke value {values} 1\n\
          poke value 0 65536\n\
          poke start 0 {past_32_bits}\n\
@@ -202,13 +208,18 @@ fn not_understood_either() -> Vec<String> {
          poke mark 0 {past_most}\n\
          setup\n\
          setup {IDENTIFIER}\n\
-         setup {IDENTIFIER} a 10 240229 110000 0\n\
-         setup {IDENTIFIER} a 10 240229 110000 0 0 0\n\
-         setup {IDENTIFIER} a 10 230229 110000 0 0\n\
-         setup {IDENTIFIER} a 10 240229 110000 0 {past_32_bits}\n\
-         setup ABCX2400001 a 10 @0 0 0\n\
+         setup {IDENTIFIER} a 10000 240229 110000 0\n\
+         setup {IDENTIFIER} a 10000 240229 110000 0 0 0\n\
+         setup {IDENTIFIER} a 10000 230229 110000 0 0\n\
+         setup {IDENTIFIER} a 10000 240229 110000 0 {past_32_bits}\n\
+         setup ABCX2400001 a 10000 @0 0 0\n\
          setup {IDENTIFIER} a x @0 0 0\n\
-         setup {IDENTIFIER} a 10 @0 x 0\n\
+         setup {IDENTIFIER} a 1.25 @0 0 0\n\
+         setup {IDENTIFIER} a 1,250 @0 0 0\n\
+         setup {IDENTIFIER} a {past_32_bits} @0 0 0\n\
+         setup {IDENTIFIER} a 10000 @0 0.5 0\n\
+         setup {IDENTIFIER} a 10000 @0 {past_most} 0\n\
+         setup {IDENTIFIER} a 10000 @0 x 0\n\
          ?\n\
          ? 1\n\
          help\n\
@@ -254,19 +265,19 @@ pub fn garbled(seed: u64) -> Script {
         for line in well_formed.iter().chain(&not_understood()) {
             life.say(line);
         }
-        life.say_all(&["lend", "show", "setup ABCX24000017 a 10 240229 110000 0 0", "read 1"]);
+        life.say_all(&["lend", "show", "setup ABCX24000017 a 10000 240229 110000 0 0", "read 1"]);
         for line in not_understood_either() {
             life.say(line);
         }
         life.say("show");
     }
-    life.say(b"setup \xff\xfe\x80\x00\x01\x7f\xc3\xa9ABCD a 10 240229 110000 0 0");
+    life.say(b"setup \xff\xfe\x80\x00\x01\x7f\xc3\xa9ABCD a 10000 240229 110000 0 0");
     life.say(b"open \xff\xfe\x80\x00\x01\x7f\xc3\xa9ABCD 240229 2");
     life.say(b"\xff\xfe");
     life.say(b"count \xd9\xa1");
     life.say(b"show\x00");
     life.say_all(&[
-        "setup ABCX24000017 a 10 240229 110000 0 0",
+        "setup ABCX24000017 a 10000 240229 110000 0 0",
         &format!("count {}", write_digits(7, MOST_DIGITS)),
         &format!("count {}", write_digits(8, MOST_DIGITS + 1)),
         &format!("rate {}", write_digits(2, MOST_DIGITS)),
@@ -307,7 +318,7 @@ fn garble(life: &mut Life, mut line: Vec<u8>) -> Vec<u8> {
 
 /// A script of exactly the most bytes, one without a last newline, and one byte too many.
 pub fn longest() -> Vec<Script> {
-    let begin = b"setup ABCX24000017 a 10 240229 110000 0 0\ncount 7\nshow\n#".to_vec();
+    let begin = b"setup ABCX24000017 a 10000 240229 110000 0 0\ncount 7\nshow\n#".to_vec();
     let end = b"\nread 0\nshow";
     let mut scripts = Vec::new();
     for (name, length) in [("longest", MOST_SCRIPT_BYTES), ("too long", MOST_SCRIPT_BYTES + 1)] {

@@ -1,13 +1,13 @@
 //! Ordinary lives: weeks of counts, clocks, outages, accesses, resets and reads, and
 //! the ledgers that take their blocks lost, repeated and shuffled.
 
-use super::{write_into, Life, Script, IDENTIFIER};
+use super::{write_into, Life, Script, IDENTIFIER, UNIT_A_PULSE};
 use crate::block::{self, RATES};
 use crate::calendar::{self, SECONDS_PER_DAY, SECONDS_PER_HALF_HOUR};
 use crate::ledger;
 use crate::listing;
-use crate::quantities::{TOTAL_MODULUS, WATT_HOURS_PER_KWH};
-use crate::recorder::{Class, LEAST_WEIGHT, MOST_ASKED, MOST_WEIGHT};
+use crate::quantities::{LEAST_WEIGHT, MOST_WEIGHT, THOUSANDTHS_PER_KWH, TOTAL_MODULUS};
+use crate::recorder::{Class, MOST_ASKED};
 use crate::script::KEPT_BLOCKS;
 
 /// Some weeks of one outstation, read out and delivered to ledgers.
@@ -101,10 +101,15 @@ pub fn ledgers(seed: u64) -> Script {
 fn begin(life: &mut Life, class: Class, days: u64) -> u64 {
     let first = life.random.below(calendar::DAYS - days - 5);
     let time = first * SECONDS_PER_DAY + life.random.below(SECONDS_PER_DAY);
-    let weight = *life.random.pick(&[LEAST_WEIGHT, 2, 5, 10, 10, 33, MOST_WEIGHT]);
+    let weight = match life.random.below(4) {
+        0 => LEAST_WEIGHT,
+        1 => UNIT_A_PULSE,
+        2 => MOST_WEIGHT,
+        _ => life.random_weight(),
+    };
     let total = match life.random.below(3) {
         0 => 0,
-        1 => TOTAL_MODULUS - life.random.between(1, 3_000 * WATT_HOURS_PER_KWH),
+        1 => TOTAL_MODULUS - life.random.between(1, 3_000 * THOUSANDTHS_PER_KWH),
         _ => life.random.below(TOTAL_MODULUS),
     };
     let counter = match life.random.below(2) {

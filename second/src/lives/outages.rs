@@ -1,7 +1,7 @@
 //! Long outages and long jumps of the clock, about a class's days and over the century. A recorder
 //! that writes only the days still held must leave what closing every half-hour leaves.
 
-use super::{Life, Script, LATEST_START};
+use super::{Life, Script, LATEST_START, UNIT_A_PULSE};
 use crate::calendar::{LAST_DAY, LAST_TIME, SECONDS_PER_DAY, SECONDS_PER_HALF_HOUR};
 use crate::quantities::TOTAL_MODULUS;
 use crate::recorder::{Class, MOST_ASKED};
@@ -158,7 +158,7 @@ fn one_after_another(life: &mut Life, class: Class) {
 fn begin(life: &mut Life, class: Class, time: u64) {
     let total = life.random.below(TOTAL_MODULUS);
     let counter = life.random.bits() as u32;
-    life.set_up(class, 10, time, total, counter);
+    life.set_up(class, UNIT_A_PULSE, time, total, counter);
 }
 
 /// At a second of a day that leaves the calendar long enough for what follows.

@@ -10,7 +10,7 @@ use crate::script::{KEPT_BLOCKS, MOST_SCRIPT_BYTES};
 
 #[test]
 fn a_filled_half_hour_is_unmarked_and_repeats() {
-    let mut outstation = Outstation::new(Class::A, 10, "240229011000", 0, 0);
+    let mut outstation = Outstation::new(Class::A, 10_000, "240229011000", 0, 0);
     outstation.event(Event::Access);
     let block = outstation.read(1);
     assert_eq!(block::check(&block), Answer::done(1));
@@ -28,7 +28,7 @@ fn a_filled_half_hour_is_unmarked_and_repeats() {
 
 /// A few days with marks in every day, read at several times.
 fn lived() -> Outstation {
-    let mut outstation = Outstation::new(Class::A, 10, "240227231500", TOTAL_MODULUS - 50_000, 0);
+    let mut outstation = Outstation::new(Class::A, 10_000, "240227231500", TOTAL_MODULUS - 50_000_000, 0);
     for step in 0..120_u64 {
         let counter = outstation.recorder.last.wrapping_add((step * 37 % 900) as u32);
         outstation.event(Event::Count(counter));
@@ -115,7 +115,7 @@ fn a_block_of_the_most_days_and_one_more() {
 #[test]
 fn refusals_change_nothing() {
     let lines = [
-        "setup ABCX24000017 a 10 240229 110000 5 0",
+        "setup ABCX24000017 a 10000 240229 110000 5000 0",
         "count 20",
         "access",
         "read 1",
@@ -156,7 +156,7 @@ fn refusals_change_nothing() {
 
 #[test]
 fn outages_longer_than_the_ring_flag_every_stored_day() {
-    let mut outstation = Outstation::new(Class::A, 10, "240229110000", 0, 0);
+    let mut outstation = Outstation::new(Class::A, 10_000, "240229110000", 0, 0);
     outstation.event(Event::Off);
     assert_eq!(outstation.event(Event::On(LAST_TIME)), DONE);
     assert_eq!(outstation.recorder.days, Class::A.days() as u64);

@@ -5,7 +5,7 @@ use crate::quantities;
 
 #[test]
 fn the_order_of_the_recorder_s_answers() {
-    let mut outstation = Outstation::new(Class::A, 10, "240229110000", 0, 0);
+    let mut outstation = Outstation::new(Class::A, 10_000, "240229110000", 0, 0);
     let right = outstation.recorder;
     outstation.recorder.weight = 0;
     outstation.recorder.power = false;
@@ -17,7 +17,7 @@ fn the_order_of_the_recorder_s_answers() {
     outstation.recorder.class = right.class;
     outstation.values.pop();
     assert_eq!(outstation.event(rate_too_many), DAMAGED);
-    outstation.recorder.weight = 10;
+    outstation.recorder.weight = 10_000;
     assert_eq!(outstation.event(rate_too_many), WRONG_POWER);
     assert_eq!(outstation.event(Event::Clock(0)), WRONG_POWER);
     assert_eq!(outstation.event(Event::Count(u32::MAX)), WRONG_POWER);
@@ -33,7 +33,7 @@ fn the_order_of_a_read_s_answers() {
     let room = Class::A.room(calendar::read_date(b"240229").unwrap());
     let asked_too_many = &format!("read {}", recorder::MOST_ASKED + 1);
     let lines = [
-        "setup ABCX24000017 a 10 240229 110000 0 0",
+        "setup ABCX24000017 a 10000 240229 110000 0 0",
         &format!("poke start {room} {}", quantities::READING_MODULUS),
         asked_too_many,
         "read 1 0",
@@ -71,7 +71,7 @@ fn set_up_and_opening_check_6_before_4() {
 
 #[test]
 fn the_order_of_the_ledger_s_answers() {
-    let mut outstation = Outstation::new(Class::A, 10, "240229110000", 0, 0);
+    let mut outstation = Outstation::new(Class::A, 10_000, "240229110000", 0, 0);
     let day = calendar::day_of(outstation.recorder.time);
     let block = outstation.read(1);
     let mut bytes = vec![0; ledger::bytes_for(1)];
@@ -108,7 +108,7 @@ fn the_order_of_the_ledger_s_answers() {
 
 #[test]
 fn a_refused_reader_names_the_first_wrong_field() {
-    let mut outstation = Outstation::new(Class::A, 10, "240229110000", 0, 0);
+    let mut outstation = Outstation::new(Class::A, 10_000, "240229110000", 0, 0);
     outstation.event(Event::Clock(at("240301110000")));
     let block = outstation.read(2);
     for (at, offset) in [

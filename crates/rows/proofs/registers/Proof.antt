@@ -2,7 +2,7 @@ use mathlib.Core.Path.{refl}
 use native.Mathlib.Omega.{arith}
 use Prim.Native.Nat.{_-_}
 use Rattle.laws.proofs.Table.{Filled, filled-on, filled-done}
-use Rattle.quantity.specs.Units.{wattHours}
+use Rattle.quantity.specs.Units.{milliwattHours}
 use Rattle.rows.specs.Rows.{registerIn}
 use Rattle.rows.proofs.Laws.{register-is}
 use borrow.Author.Needs.{needs}
@@ -10,7 +10,7 @@ use Rattle.rows.proofs.registers.Statement.{statement}
 use Rattle.rows.proofs.registers.Tie as tie
 
 abbrev Inv-loop : tie.InvT-loop
-Inv-loop row rates₀ i₀ rates i = Filled (wattHours 0) 8 (registerIn row) rates i
+Inv-loop row rates₀ i₀ rates i = Filled (milliwattHours 0) 8 (registerIn row) rates i
 
 abbrev μ-loop : tie.MeasureT-loop
 μ-loop row rates₀ i₀ rates i = 8 - i
