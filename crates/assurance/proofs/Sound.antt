@@ -25,7 +25,7 @@ use Rattle.format.specs.Fields.{digits, okValue, okValues}
 use Rattle.format.specs.Identifier.{identOk}
 use Rattle.block.specs.declared.Header.{Header}
 use Rattle.format.proofs.Numbers.{good-at, num-lt}
-use Rattle.block.specs.Layout.{isIdentifier, identifier, lowFiveClear, totalFields, rateFields}
+use Rattle.block.specs.Layout.{mostDays, isIdentifier, identifier, lowFiveClear, totalFields, rateFields}
 use Rattle.block.specs.Header.{totalsOf, ratesOf}
 use Rattle.block.proofs.Checking.{ident-ok}
 use Rattle.judgement.specs.declared.Source.{Source}
@@ -137,7 +137,7 @@ module _ (s : SetUp) (z : Given s) (p : Paper) (x : Mem) (k : Kept s p x) where
       (sym (small (c .rate i % totalRound / kwhOfUnit) (kwh-few (c .rate i)))))))
       (omega arith) (omega arith))
 
-  pub head-fits : (n : ℕ) → n ≤ 450 → headFits h n ≡ true
+  pub head-fits : (n : ℕ) → n ≤ mostDays → headFits h n ≡ true
   unfolding headerDue
   head-fits n few =
       sym (head-is h n true true true few (k .at .demand .date) eight (sym (ident-fits (s .identifier) (z .identifier))) (sym totals-fit) (sym rates-fit))
@@ -229,7 +229,7 @@ module _ (s : SetUp) (z : Given s) (p : Paper) (x : Mem) (k : Kept s p x) (n : �
   unfolding daysFit
   days-fit =
       allTrue-of (daysTests (p .time) n src (x .store .values) (x .store .starts) (x .store .marks)) (
-        le-leb n 450 (omega (arith, days-few (s .class))),
+        le-leb n mostDays (omega (arith, days-few (s .class))),
         (
           le-leb n (today p + 1) (omega arith),
           (
@@ -251,7 +251,7 @@ module _ (s : SetUp) (z : Given s) (p : Paper) (x : Mem) (k : Kept s p x) (n : �
   is-shaped =
       let f = k .at .store .fits in
       allTrue-of (shapeTests src n (length (x .store .values)) (length (x .store .starts)) (length (x .store .marks))) (
-        le-leb (capOf s) 450 (f .most),
+        le-leb (capOf s) mostDays (f .most),
         (
           eq-eqb _ _ (f .values),
           (
@@ -261,8 +261,8 @@ module _ (s : SetUp) (z : Given s) (p : Paper) (x : Mem) (k : Kept s p x) (n : �
               (
                 le-leb n (capOf s) (omega arith),
                 (
-                  le-leb (today p % capOf s) 450 (omega (arith, mod-lt (today p) (z .some), f .most)),
-                  (le-leb (capOf s - 1) 450 (omega (arith, f .most)), (le-leb (endedAt (p .time)) 48 (omega arith), tt)),
+                  le-leb (today p % capOf s) mostDays (omega (arith, mod-lt (today p) (z .some), f .most)),
+                  (le-leb (capOf s - 1) mostDays (omega (arith, f .most)), (le-leb (endedAt (p .time)) 48 (omega arith), tt)),
                 ),
               ),
             ),

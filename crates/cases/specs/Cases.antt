@@ -1,18 +1,18 @@
 -- The starred cases of the table "Reckoned by hand" of docs/RULES.md, its outage of three days, weights that are no whole watt-hours, the daily flags, the marks, and answers 1, 6 and 2; then the days of the classes, the
 -- characters of an identifier and the ranges of a recorder's fields (docs/RULES.md, "Set-up"), and the order of the answers to set-up and events (docs/RULES.md, "Checked in this
 -- order"), by inputs that two checks refuse. For each what the definitions give, and what is due.
-use Prim.Native.Nat.{ℕ}
+use Prim.Native.Nat.{ℕ, _-_, _*_}
 use mathlib.Core.Bool.{true}
 use mathlib.Core.List.{List, [], _∷_, _++_, map}
 use lib.ListN.{getD, replicate, set}
 use Rattle.calendar.specs.Calendar.{realDate}
-use Rattle.calendar.specs.Clock.{endedOn}
+use Rattle.calendar.specs.Clock.{halvesOfDay, endedOn}
 use Rattle.laws.specs.Bits.{bit}
 use Rattle.quantity.specs.Units.{milliwattHours, wattHours, units, centiKilowatts, readingOf, kwhOf, demandOf}
 use Rattle.registers.specs.Energy.{pulsesOf, runningFrom, noEnergy}
 use Rattle.store.specs.declared.Class.{Class}
 use Rattle.store.specs.declared.Class.the-variants.{A, B, C, D, Blank}
-use Rattle.store.specs.Class.{daysOf}
+use Rattle.store.specs.Class.{daysOf, dayWords}
 use Rattle.store.specs.Store.{Store, store}
 use Rattle.recorder.specs.declared.Recorder.{Recorder}
 use Rattle.recorder.specs.declared.Event.{Event}
@@ -36,15 +36,18 @@ ident = 65 ∷ 66 ∷ 67 ∷ 88 ∷ 50 ∷ 52 ∷ 48 ∷ 48 ∷ 48 ∷ 48 ∷ 49
 abbrev pub small : List ℕ
 small = 65 ∷ 66 ∷ 67 ∷ 120 ∷ 50 ∷ 52 ∷ 48 ∷ 48 ∷ 48 ∷ 48 ∷ 49 ∷ 55 ∷ []
 
--- a store of zeros: so many values, starts and words of marks; that of class a, and one value less
+-- a store of zeros: so many values, starts and words of marks; that of a class; that of class a, and one value less
 abbrev pub lent : ℕ → ℕ → ℕ → Store
 lent values starts marks = store (replicate values 0) (replicate starts 0) (replicate marks 0)
 
+abbrev pub lentFor : Class → Store
+lentFor c = lent (daysOf c * halvesOfDay) (daysOf c) (daysOf c * dayWords)
+
 abbrev pub full : Store
-full = lent 960 20 60
+full = lentFor A
 
 abbrev pub short : Store
-short = lent 959 20 60
+short = lent (daysOf A * halvesOfDay - 1) (daysOf A) (daysOf A * dayWords)
 
 -- class a, set up at a time with this total, counter value and weight, lent a store of zeros: total and weight in watt-hours, and in thousandths of one
 abbrev pub meter : ℕ → ℕ → ℕ → ℕ → Mem

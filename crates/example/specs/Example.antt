@@ -11,12 +11,13 @@ use Rattle.days.specs.Energy.{advances}
 use Rattle.ledger.specs.Asked.{missingOf}
 use Rattle.rooms.specs.View.{viewOf}
 use Rattle.store.specs.declared.Class.the-variants.{A}
-use Rattle.store.specs.Store.{Store, store}
+use Rattle.store.specs.Store.{Store}
 use Rattle.recorder.specs.declared.SetUp.{SetUp}
 use Rattle.recorder.specs.declared.Event.the-variants.{Count, Clock, Off, On}
 use Rattle.recorder.specs.Recorder.{Mem}
 use Rattle.recorder.specs.Step.{step}
 use Rattle.recorder.specs.SetUp.{given, setUp}
+use Rattle.cases.specs.Cases.{full}
 use Rattle.readout.specs.Read.{readOf}
 use Rattle.assurance.specs.Run.{Call, happens, reads, left, blocksIn}
 use Rattle.assurance.specs.Delivered.{answersAll, carriedAll, heldOn, counted, opened, filed}
@@ -29,7 +30,7 @@ abbrev pub meter : SetUp
 meter = given identifier A (wattHours 10) 0 (wattHours 0) 0
 
 abbrev pub lent : Store
-lent = store (replicate 960 0) (replicate 20 0) (replicate 60 0)
+lent = full
 
 abbrev pub calls : List Call
 calls =

@@ -4,6 +4,7 @@ use Prim.Native.Nat.{ℕ, zero, suc, _+_}
 use mathlib.Core.Bool.{true}
 use mathlib.Core.List.{List, [], _∷_, _++_, map}
 use lib.ListN.{replicate, set, take, drop}
+use lib.Seq.{sets}
 use Rattle.quantity.specs.Units.{wattHours, centiKilowatts, units}
 use Rattle.registers.specs.Energy.{energyFrom, runningFrom}
 use Rattle.registers.specs.Demand.{noDemand}
@@ -99,9 +100,9 @@ twoEnded =
         running = record { base = units 471230; reverse = true; level2 = true };
       };
       store = store
-          (replicate 240 0 ++ (1150 ∷ 1230 ∷ (replicate 46 7777 ++ replicate 672 0)))
-          (set (replicate 20 0) 5 471100)
-          (replicate 15 0 ++ (2 ∷ 1 ∷ 64 ∷ replicate 42 0));
+          (sets (full .values) 240 (1150 ∷ 1230 ∷ replicate 46 7777))
+          (set (full .starts) 5 471100)
+          (sets (full .marks) 15 (2 ∷ 1 ∷ 64 ∷ []));
     }
 
 -- its day's 219 bytes

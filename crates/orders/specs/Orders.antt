@@ -32,11 +32,11 @@ good = meter 0 0 0 1
 
 -- a stored day out of range: a low bit in its flags
 abbrev pub badDay : Mem → Mem
-badDay x = beside x (store (replicate 960 0) (replicate 20 0) (0 ∷ 0 ∷ 1 ∷ replicate 57 0))
+badDay x = beside x (store (full .values) (full .starts) (set (full .marks) 2 1))
 
 -- the same though the block would be right: 49 bits as its reverse marks, of which none is sent, since no half-hour has ended
 abbrev pub badMark : Mem → Mem
-badMark x = beside x (store (replicate 960 0) (replicate 20 0) (281474976710656 ∷ replicate 59 0))
+badMark x = beside x (store (full .values) (full .starts) (set (full .marks) 0 281474976710656))
 
 -- a reset count of 1 without a reset date: both in range, but no block that the reader takes
 abbrev pub oneReset : Demand → Demand

@@ -26,6 +26,6 @@ presentAt cap t p = record { time = t; on = true; days = min cap (p .days + (t /
 -- what that asks, as plain bounds
 pub record Later (cap t : ℕ) (p : Present) : Type 0 where
   pub days : p .days ≤ cap
-  pub most : cap ≤ 450
+  pub most : cap ≤ daysInAll
   pub from : p .time ≤ t
   pub to : t < timesInAll

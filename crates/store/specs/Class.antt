@@ -16,7 +16,7 @@ daysOf Blank = 0
 
 -- the most that a class holds
 abbrev pub mostDays : ℕ
-mostDays = 450
+mostDays = daysOf D
 
 -- what a day takes of the store: a value for each half-hour, one start, and three words (reverse marks, Level 2 marks, flags)
 abbrev pub dayWords : ℕ
