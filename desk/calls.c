@@ -75,14 +75,14 @@ static void figures(void) {
     IS(COP6_DIFFERENCE, 4);
     IS(COP6_VALUE_ROUND, 10000);
     IS(COP6_READING_ROUND, 100000000);
-    IS(COP6_MOST_DAYS, 450);
+    IS(COP6_MOST_DAYS, 451);
     IS(COP6_LISTING_BYTES(1), 62);
     IS(COP6_BLOCK_BYTES(0), 112);
     IS(COP6_BLOCK_BYTES(1), 331);
-    IS(COP6_BLOCK_BYTES(COP6_MOST_DAYS), 98662);
+    IS(COP6_BLOCK_BYTES(COP6_MOST_DAYS), 98881);
     IS(COP6_LEDGER_BYTES(0), 16);
     IS(COP6_LEDGER_BYTES(1), 130);
-    IS(COP6_LEDGER_BYTES(COP6_MOST_DAYS), 51316);
+    IS(COP6_LEDGER_BYTES(COP6_MOST_DAYS), 51430);
 }
 
 /* ---- days and blocks */
@@ -348,7 +348,7 @@ static void longest(void) {
     IS(memcmp(long_block, "\0\0\0\x6c\1", 5), 0);
     IS(cop6_read(long_block, COP6_BLOCK_BYTES(0)), ANSWER(COP6_DONE, 0));
     IS(sample_block(long_block, MOST, DAY, 2, 1), sizeof long_block);
-    IS(memcmp(long_block, "\0\1\x81\x62\1", 5), 0);
+    IS(memcmp(long_block, "\0\1\x82\x3d\1", 5), 0);
     IS(cop6_read(long_block, sizeof long_block), ANSWER(COP6_DONE, MOST));
     memcpy(too_long, long_block, sizeof long_block);
     sample_bytes(too_long, LENGTH_BYTES, sizeof too_long - LENGTH_BYTES);

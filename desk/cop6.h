@@ -45,7 +45,7 @@ enum {
 };
 
 #define COP6_IDENTIFIER 12                     /* bytes of an identifier */
-#define COP6_MOST_DAYS 450                     /* of a block, and of a ledger's window */
+#define COP6_MOST_DAYS 451                     /* of a block, and of a ledger's window */
 #define COP6_HALVES 48                         /* half-hours of a day */
 #define COP6_RATES 8                           /* rate registers */
 #define COP6_READING_ROUND 100000000           /* readings are below it: start and advances are summed modulo this */

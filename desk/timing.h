@@ -2,11 +2,13 @@
 #ifndef TIMING_H
 #define TIMING_H
 
+#include "cop6.h"
+
 #include <stddef.h>
 #include <stdint.h>
 
-/* The store that they are lent, of class d: its days, and the words of a day's marks. */
-#define TIMED_DAYS 450
+/* The store that they are lent, of class d: its days, which the longest block carries, and the words of a day's marks. */
+#define TIMED_DAYS COP6_MOST_DAYS
 #define TIMED_WORDS 3
 /* Thousandths of a watt-hour in a pulse: 1 Wh. */
 #define TIMED_PULSE 1000

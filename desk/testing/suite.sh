@@ -221,7 +221,7 @@ standard() {
 # The longest window that a ledger may have, up to the last day of all.
 longest() {
     expect open_longest open longest.ledger $meter "$(last_window)" "$most_days"
-    holds 'a ledger of 450 days has 51,316 bytes' [ "$(wc -c <longest.ledger)" = 51316 ]
+    holds 'a ledger of 451 days has 51,430 bytes' [ "$(wc -c <longest.ledger)" = 51430 ]
     expect longest_missing missing longest.ledger
     rm longest.ledger
 }

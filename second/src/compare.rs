@@ -2,7 +2,7 @@
 //! compares the answers line by line and the listings byte by byte.
 
 use crate::block;
-use crate::listing;
+use crate::listing::{self, REFUSED};
 use crate::lives::{self, Script};
 use crate::script::{self, Played, Player};
 use std::collections::{BTreeMap, BTreeSet};
@@ -200,7 +200,7 @@ impl Blocks {
     fn add(&mut self, block: &[u8]) {
         let records = block.len().saturating_sub(block::HEADER_BYTES) / block::DAY_BYTES;
         let text = listing::listing(block);
-        let kind = text.strip_prefix("REFUSED ").unwrap_or("accepted").trim_end();
+        let kind = text.strip_prefix(REFUSED).unwrap_or("accepted").trim_end();
         let blocks = self.kinds.entry(format!("{kind} {records}")).or_default();
         if blocks.len() < BLOCKS_OF_A_KIND {
             blocks.insert(block.to_vec());
@@ -210,10 +210,12 @@ impl Blocks {
     /// All of them, with inputs that no script can make.
     fn into_list(self) -> Vec<Vec<u8>> {
         let mut list: Vec<Vec<u8>> = self.kinds.into_values().flatten().collect();
-        let accepted = list.iter().find(|block| listing::listing(block).starts_with(char::is_alphabetic));
-        let mut followed = accepted.cloned().unwrap_or_default();
-        followed.push(b'\n');
-        list.push(followed);
+        let mut listed: Vec<&Vec<u8>> =
+            list.iter().filter(|block| !listing::listing(block).starts_with(REFUSED)).collect();
+        listed.sort_by_key(|block| block.len());
+        let ends: Vec<&Vec<u8>> = listed.first().into_iter().chain(listed.last()).copied().collect();
+        let followed: Vec<Vec<u8>> = ends.iter().map(|block| [block.as_slice(), b"\n"].concat()).collect();
+        list.extend(followed);
         let lengths = [
             0,
             1,

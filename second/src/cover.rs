@@ -1,13 +1,17 @@
 //! The coverage table: how often each kind of call gave each answer number in the
 //! scripts of one round, and which answers that the rules allow were not reached.
 
+mod limits;
+
 use crate::answer::*;
 use crate::block::*;
 use crate::calendar::{self, HALF_HOURS, SECONDS_PER_DAY};
+use crate::listing::REFUSED;
 use crate::lives::{self, WEIGHTS};
 use crate::quantities::{KWH_DIGITS, VALUE_DIGITS};
 use crate::recorder::{Class, Recorder};
 use crate::script::{self, Player};
+use limits::Limits;
 use std::collections::{BTreeMap, BTreeSet};
 
 const ANSWERS: u32 = CONFLICT + 1;
@@ -82,7 +86,7 @@ impl Coverage {
             *self.others.entry(call).or_default() += 1;
         } else {
             let number = if call == "listing" {
-                answer.strip_prefix("REFUSED ").map_or(DONE, |number| number.parse().unwrap_or(ANSWERS))
+                answer.strip_prefix(REFUSED).map_or(DONE, |number| number.parse().unwrap_or(ANSWERS))
             } else {
                 answer.split(' ').next().and_then(|number| number.parse().ok()).unwrap_or(ANSWERS)
             };
@@ -107,6 +111,7 @@ struct Passed {
     read: BTreeSet<u64>,
     /// Pulse weights with which a half-hour took its last pulses or refused one more, each with the answer.
     filled: BTreeSet<(u64, u32)>,
+    limits: Limits,
 }
 
 impl Passed {
@@ -118,6 +123,7 @@ impl Passed {
         for (line, number) in text.split(|&byte| byte == b'\n').zip(1..) {
             let before = player.recorder;
             let answer = player.play_line(number, line).unwrap_or_default();
+            self.limits.add(&before, line, &answer, &player);
             let word = line.split(|&byte| byte == b' ').next().unwrap_or_default();
             if word == b"count" {
                 self.add_count(&before, line, &answer);
@@ -151,6 +157,20 @@ impl Passed {
                 }
             }
         }
+    }
+
+    /// Prints how much of each was met; true where all was.
+    fn told(&self) -> bool {
+        let (over, all) = (self.over.len(), TIMED_CALLS * Class::ALL.len());
+        println!("classes whose days were passed over at once, by clock and by on: {over} of {all}");
+        let read = self.read.len() as u64;
+        println!("days of reading: {read} of {}", calendar::DAYS);
+        let (filled, weights) = (self.filled.len(), AT_THE_MOST.len() * WEIGHTS.len());
+        println!(
+            "pulse weights with which a half-hour took its most, and refused one pulse more: {filled} of {weights}"
+        );
+        let limits = self.limits.told();
+        over == all && read == calendar::DAYS && filled == weights && limits
     }
 }
 
@@ -194,12 +214,7 @@ pub fn cover(seed: u64) -> bool {
     let fields = field_offsets();
     let reached = fields.intersection(&coverage.offsets).count();
     println!("fields of a two-day block refused with {WRONG_FIELD}: {reached} of {}", fields.len());
-    let (over, all) = (passed.over.len(), TIMED_CALLS * Class::ALL.len());
-    println!("classes whose days were passed over at once, by clock and by on: {over} of {all}");
-    let read = passed.read.len() as u64;
-    println!("days of reading: {read} of {}", calendar::DAYS);
-    let (filled, weights) = (passed.filled.len(), AT_THE_MOST.len() * WEIGHTS.len());
-    println!("pulse weights with which a half-hour took its most, and refused one pulse more: {filled} of {weights}");
+    let passed = passed.told();
     println!("scripts: {}, bytes: {}", scripts.len(), scripts.iter().map(|script| script.text.len()).sum::<usize>());
-    right && reached == fields.len() && over == all && read == calendar::DAYS && filled == weights
+    right && reached == fields.len() && passed
 }

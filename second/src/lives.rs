@@ -2,11 +2,13 @@
 //! its next line can follow from where it stands; the seed alone decides it.
 
 mod boundaries;
+mod complete;
 mod conflicts;
 mod damage;
 mod dates;
 mod hostile;
 mod lines;
+mod longest;
 mod ordinary;
 mod outages;
 mod weights;
@@ -50,7 +52,7 @@ pub struct Script {
 type Generator = fn(u64) -> Script;
 
 /// The kinds of a round, each with the number of scripts of that kind.
-const KINDS: [(Generator, u64); 30] = [
+const KINDS: [(Generator, u64); 35] = [
     (ordinary::weeks, 16),
     (ordinary::year, 1),
     (ordinary::ledgers, 3),
@@ -81,6 +83,11 @@ const KINDS: [(Generator, u64); 30] = [
     (weights::crossed, 1),
     (weights::remainders, 1),
     (weights::limits, 1),
+    (|seed| complete::days(seed, Class::A), 1),
+    (|seed| complete::days(seed, Class::B), 1),
+    (|seed| complete::days(seed, Class::C), 1),
+    (|seed| complete::days(seed, Class::D), 1),
+    (longest::longest, 1),
 ];
 
 /// All scripts of one round.

@@ -25,13 +25,13 @@ pub struct Player {
     values: Vec<u16>,
     starts: Vec<u32>,
     marks: Vec<u64>,
-    lent: StoreLength,
+    pub lent: StoreLength,
     /// A `lend V S M` stands.
     lend_stands: bool,
     pub block: Vec<u8>,
     kept: Vec<Vec<u8>>,
     pub ledger: Vec<u8>,
-    given: Header,
+    pub given: Header,
     given_days: Vec<Day>,
 }
 

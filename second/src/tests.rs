@@ -1,6 +1,8 @@
 //! The cases of docs/RULES.md that are reckoned by hand and its listing example. Beside them
-//! the order of the answers, and what must hold of any block and any refusal.
+//! the order of the answers, what must hold of any block and any refusal, and of any life.
 
+mod complete;
+mod history;
 mod hold;
 mod order;
 mod weights;
@@ -167,26 +169,31 @@ fn a_read_of_no_days() {
 }
 
 #[test]
-fn a_read_of_450_days() {
+fn reads_of_450_and_of_451_days() {
     let mut outstation = Outstation::new(Class::D, 10_000, "230101110000", 0, 0);
     assert_eq!(outstation.event(Event::Clock(at("240901113000"))), 0);
-    assert_eq!(outstation.recorder.days, 450);
-    let block = outstation.read(450);
-    assert_eq!(block.len(), 98_662);
-    assert_eq!(block[..5], [0, 1, 0x81, 0x62, 1]);
-    assert_eq!(block::check(&block), Answer::done(450));
-    assert_eq!(listing::listing(&block), "REFUSED 8\n");
+    assert_eq!(outstation.recorder.days, 451);
+    for (asked, days, bytes, first) in [
+        (450, 450, 98_662, [0, 1, 0x81, 0x62, 1]),
+        (451, 451, 98_881, [0, 1, 0x82, 0x3d, 1]),
+        (452, 451, 98_881, [0, 1, 0x82, 0x3d, 1]),
+    ] {
+        let block = outstation.read(asked);
+        assert_eq!((block.len(), &block[..5]), (bytes, &first[..]));
+        assert_eq!(block::check(&block), Answer::done(days));
+        assert_eq!(listing::listing(&block), "REFUSED 8\n");
+    }
 }
 
 #[test]
 fn the_lengths_of_the_pages() {
     assert_eq!(block::bytes_for(1), 331);
-    assert_eq!(block::MOST_BYTES, 98_662);
-    assert_eq!(listing::MOST_BYTES, 22_012);
+    assert_eq!(block::MOST_BYTES, 98_881);
+    assert_eq!(listing::MOST_BYTES, 22_231);
     assert_eq!(ledger::bytes_for(0), 16);
     assert_eq!(ledger::bytes_for(1), 130);
-    assert_eq!(ledger::MOST_BYTES, 51_316);
-    let lengths = [(960, 20, 60), (4_800, 100, 300), (12_000, 250, 750), (21_600, 450, 1_350)];
+    assert_eq!(ledger::MOST_BYTES, 51_430);
+    let lengths = [(1_008, 21, 63), (4_848, 101, 303), (12_048, 251, 753), (21_648, 451, 1_353)];
     for (class, (values, starts, marks)) in Class::ALL.into_iter().zip(lengths) {
         assert_eq!(class.store_length(), StoreLength { values, starts, marks });
     }
@@ -209,12 +216,12 @@ fn an_outage_of_as_many_days_as_the_class_holds() {
     outstation.event(Event::Meter(0));
     outstation.event(Event::Count(50));
     outstation.event(Event::Off);
-    assert_eq!(outstation.event(Event::On(at("240321001000"))), 0);
-    assert_eq!((outstation.recorder.days, outstation.recorder.current), (20, 100));
+    assert_eq!(outstation.event(Event::On(at("240322001000"))), 0);
+    assert_eq!((outstation.recorder.days, outstation.recorder.current), (21, 100));
     let oldest = outstation.day("240302");
     assert_eq!((oldest.start, oldest.flags, oldest.level2, oldest.values), (50, 0x80, 0, [50; 48]));
     // The room of 1 March: what had ended by noon is left of it, its flag and mark are not.
-    let today = outstation.day("240321");
+    let today = outstation.day("240322");
     assert_eq!((today.start, today.flags, today.level2), (50, 0x80, 0));
     assert_eq!((today.values[..24].to_vec(), today.values[24..].to_vec()), (vec![0; 24], vec![50; 24]));
 }

@@ -1,4 +1,4 @@
--- The three demands.
+-- The three demands, and the complete days of a class.
 -- Assumes nothing.
 use Prim.Native.Nat.{ℕ}
 use mathlib.Core.Path.{_≡_, refl, sym, ap, _∙_}
@@ -32,7 +32,7 @@ use Rattle.assurance.specs.Written.{paper}
 use Rattle.assurance.specs.Sent.{daysDue, fieldsDue, blockDue, sentDue}
 use Rattle.assurance.specs.Run.{Call, runAll, eventsOf, blockOf}
 use Rattle.assurance.specs.ForC.{ForC}
-use Rattle.assurance.specs.Demands.{Demand1, Demand2, Demand3}
+use Rattle.assurance.specs.Demands.{Demand1, Demand2, Demand3, CompleteDays}
 use Rattle.assurance.proofs.Start.{given as given-of}
 use Rattle.assurance.proofs.Run.{kept}
 use Rattle.assurance.proofs.Life.{life}
@@ -42,6 +42,7 @@ use Rattle.assurance.proofs.Senders.{senders, registers-read, says-read
 use Rattle.assurance.proofs.Causes.{causes}
 use Rattle.assurance.proofs.Again.{written-again}
 use Rattle.assurance.proofs.Delivered.{holds}
+use Rattle.assurance.proofs.Complete.{all-complete}
 
 -- ---- demand 1
 
@@ -136,3 +137,8 @@ demand-2 = record {
 
 pub demand-3 : Demand3
 demand-3 s x cs l first days bs accepted well drawn = holds s x cs accepted l first days bs well drawn
+
+-- ---- the complete days
+
+pub complete-days : CompleteDays
+complete-days = all-complete

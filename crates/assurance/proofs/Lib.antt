@@ -20,6 +20,7 @@ pub mod Reading
 pub mod Honest
 pub mod Blocks
 pub mod Senders
+pub mod Complete
 pub mod Summed
 pub mod Delivered
 pub mod Causes

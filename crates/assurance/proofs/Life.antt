@@ -101,7 +101,7 @@ module _ (s : SetUp) (x : Store) (es : List Event) (accepted : setUp s x .answer
     e : ended s x es d ≡ reached (now p) d
     e = ended-reached (p .time) d
 
-    day-stored : DayStored s x es d
+    pub day-stored : DayStored s x es d
     unfolding historyOf ofDay
     day-stored =
         let g = k .at .store in

@@ -251,7 +251,7 @@ module _ (s : SetUp) (z : Given s) (p : Paper) (x : Mem) (k : Kept s p x) (n : â
   is-shaped =
       let f = k .at .store .fits in
       allTrue-of (shapeTests src n (length (x .store .values)) (length (x .store .starts)) (length (x .store .marks))) (
-        le-leb (capOf s) mostDays (f .most),
+        le-leb (capOf s) mostDays (omega (arith, f .most)),
         (
           eq-eqb _ _ (f .values),
           (

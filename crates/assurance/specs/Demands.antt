@@ -1,5 +1,5 @@
--- The three demands, each as the statement that is proved of it (proofs/Demands.antt): over `setUp`, `step`, `readOf`, `writeOf`, `openOf`, `fileOf`, `parse`
--- and the others named below, the definitions that the contracts of the code cite, so that it holds of the code.
+-- The three demands, and after them the complete days of a class, each as the statement that is proved of it (proofs/Demands.antt): over `setUp`, `step`, `readOf`,
+-- `writeOf`, `openOf`, `fileOf`, `parse` and the others named below, the definitions that the contracts of the code cite, so that it holds of the code.
 use Prim.Native.Nat.{ℕ, _≤_, min}
 use mathlib.Core.Path.{_≡_}
 use mathlib.Core.Bool.{true, cond}
@@ -45,6 +45,7 @@ use Rattle.assurance.specs.Causes.{Causes}
 use Rattle.assurance.specs.ForC.{ForC}
 use Rattle.assurance.specs.Again.{valuesOf, startsOf, wordsOf}
 use Rattle.assurance.specs.Delivered.{Drawn, Holds}
+use Rattle.assurance.specs.Complete.{AllComplete}
 
 -- an answer that is not 0
 abbrev pub Refused : ℕ → Type 0
@@ -134,3 +135,8 @@ Demand3 =
     (s : SetUp) (x : Store) (cs : List Call) (l : List ℕ) (first days : ℕ) (bs : List (List ℕ))
     → setUp s x .answer ≡ 0 → openOf l (s .identifier) first days .answer ≡ 0 → Drawn s x cs bs
     → Holds s x cs l first days bs
+
+-- The complete days of a class besides today: after any run of events and reads they are in the store whole, as many as there were since set-up, and a read that asks for
+-- one day more than their number sends them all (Complete, `AllComplete`).
+abbrev pub CompleteDays : Type 0
+CompleteDays = (s : SetUp) (x : Store) (cs : List Call) → setUp s x .answer ≡ 0 → AllComplete s x cs

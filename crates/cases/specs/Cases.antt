@@ -12,7 +12,7 @@ use Rattle.quantity.specs.Units.{milliwattHours, wattHours, units, centiKilowat
 use Rattle.registers.specs.Energy.{pulsesOf, runningFrom, noEnergy}
 use Rattle.store.specs.declared.Class.{Class}
 use Rattle.store.specs.declared.Class.the-variants.{A, B, C, D, Blank}
-use Rattle.store.specs.Class.{daysOf, dayWords}
+use Rattle.store.specs.Class.{completeDays, daysOf, dayWords}
 use Rattle.store.specs.Store.{Store, store}
 use Rattle.recorder.specs.declared.Recorder.{Recorder}
 use Rattle.recorder.specs.declared.Event.{Event}
@@ -90,13 +90,13 @@ ends = 47 ∷ 48 ∷ 57 ∷ 58 ∷ 64 ∷ 65 ∷ 90 ∷ 91 ∷ 97 ∷ 122 ∷ []
 abbrev pub endsAt : ℕ → List ℕ
 endsAt place = map (λ (c : ℕ). begins (set ident place c) A 1 0 0 full) ends
 
--- the answer to Reverse by a recorder of class a, set up at 2000-01-21 00:00:00, that has one group of its fields as given: identifier and weight; time and days stored; total,
+-- the answer to Reverse by a recorder of class a, set up at 2000-01-22 00:00:00, that has one group of its fields as given: identifier and weight; time and days stored; total,
 -- active rate and the rate registers; current, previous and cumulative demand, reset date (0 is never, d + 1 is day d) and count; the reading at the running half-hour's start
 abbrev pub reverses : Recorder → ℕ
 reverses r = answerOf (record { recorder = r; store = full }) Reverse
 
 abbrev pub sound : Recorder
-sound = meter 1728000 0 0 1 .recorder
+sound = meter 1814400 0 0 1 .recorder
 
 abbrev pub named : List ℕ → ℕ → ℕ
 named id weight =
@@ -241,17 +241,24 @@ cases =
     ∷ record { given = answers (next (meter 5 0 0 1) Off) (On 5 ∷ On 3155759999 ∷ On 3155760000 ∷ []); due = 0 ∷ 0 ∷ 2 ∷ [] }
     -- while off at second 5, 1 before 6, 2 and 3; and On to an earlier second, 2
     ∷ record { given = answers (next (meter 5 0 0 1) Off) (Rate 9 ∷ Clock 4 ∷ Count 1000000 ∷ On 4 ∷ []); due = 1 ∷ 1 ∷ 1 ∷ 2 ∷ [] }
-    -- classes a, b, c, d: the days held
-    ∷ record { given = map daysOf (A ∷ B ∷ C ∷ D ∷ []); due = 20 ∷ 100 ∷ 250 ∷ 450 ∷ [] }
+    -- classes a, b, c, d: the complete days held, and with the current day the days in all
+    ∷ record { given = map completeDays (A ∷ B ∷ C ∷ D ∷ []); due = 20 ∷ 100 ∷ 250 ∷ 450 ∷ [] }
+    ∷ record { given = map daysOf (A ∷ B ∷ C ∷ D ∷ []); due = 21 ∷ 101 ∷ 251 ∷ 451 ∷ [] }
     -- and the store's lengths, of each day 48 values, a start and 3 words of marks
+    ∷ record {
+      given = begins ident A 1 0 0 (lent 1008 21 63) ∷ begins ident B 1 0 0 (lent 4848 101 303) ∷ begins ident C 1 0 0 (lent 12048 251 753)
+          ∷ begins ident D 1 0 0 (lent 21648 451 1353) ∷ [];
+      due = 0 ∷ 0 ∷ 0 ∷ 0 ∷ [];
+    }
+    -- with no room for the current day
     ∷ record {
       given = begins ident A 1 0 0 (lent 960 20 60) ∷ begins ident B 1 0 0 (lent 4800 100 300) ∷ begins ident C 1 0 0 (lent 12000 250 750)
           ∷ begins ident D 1 0 0 (lent 21600 450 1350) ∷ [];
-      due = 0 ∷ 0 ∷ 0 ∷ 0 ∷ [];
+      due = replicate 4 4;
     }
     -- one less and one more of each
     ∷ record {
-      given = map (begins ident A 1 0 0) (lent 959 20 60 ∷ lent 961 20 60 ∷ lent 960 19 60 ∷ lent 960 21 60 ∷ lent 960 20 59 ∷ lent 960 20 61 ∷ []);
+      given = map (begins ident A 1 0 0) (lent 1007 21 63 ∷ lent 1009 21 63 ∷ lent 1008 20 63 ∷ lent 1008 22 63 ∷ lent 1008 21 62 ∷ lent 1008 21 64 ∷ []);
       due = replicate 6 4;
     }
     -- the characters / 0 9 : @ A Z [ a z at each place of the identifier: PPP, from A-Z and 0-9
@@ -288,8 +295,8 @@ cases =
     ∷ record { given = named small 1 ∷ named ident 0 ∷ named ident 1 ∷ named ident 100000 ∷ named ident 100001 ∷ []; due = 5 ∷ 5 ∷ 0 ∷ 0 ∷ 5 ∷ [] }
     -- time: the last second of 2099 and the next
     ∷ record { given = timed 3155759999 1 ∷ timed 3155760000 1 ∷ []; due = 0 ∷ 5 ∷ [] }
-    -- days stored, on 2000-01-21: 0, 1, 20, 21; and 2 in the last second of 2000-01-01, in the next
-    ∷ record { given = timed 1728000 0 ∷ timed 1728000 1 ∷ timed 1728000 20 ∷ timed 1728000 21 ∷ timed 86399 2 ∷ timed 86400 2 ∷ []; due = 5 ∷ 0 ∷ 0 ∷ 5 ∷ 5 ∷ 0 ∷ [] }
+    -- days stored, on 2000-01-22: 0, 1, 21, 22; and 2 in the last second of 2000-01-01, in the next
+    ∷ record { given = timed 1814400 0 ∷ timed 1814400 1 ∷ timed 1814400 21 ∷ timed 1814400 22 ∷ timed 86399 2 ∷ timed 86400 2 ∷ []; due = 5 ∷ 0 ∷ 0 ∷ 5 ∷ 5 ∷ 0 ∷ [] }
     -- total 999,999,999,999 and 1,000,000,000,000; active rate 0, 1, 8, 9
     ∷ record {
       given = measured 999999999999 1 0 0 ∷ measured 1000000000000 1 0 0 ∷ measured 0 0 0 0 ∷ measured 0 1 0 0 ∷ measured 0 8 0 0 ∷ measured 0 9 0 0 ∷ [];

@@ -88,7 +88,7 @@ header =
 -- ---- a day record
 
 -- class a at 01:10:00 on 2024-02-29, which is day 24 * 365 + 6 + 31 + 28 = 8,825, second 8,825 * 86,400 + 4,200, with both marks on the running half-hour. The day's room is 8,825
--- modulo 20, which is 5; it has a start, two half-hours' values and what an older day left there, their marks, the first half-hour in reverse, the second Level 2, and a flag
+-- modulo 21, which is 5; it has a start, two half-hours' values and what an older day left there, their marks, the first half-hour in reverse, the second Level 2, and a flag
 abbrev pub twoEnded : Mem
 twoEnded =
     record {
@@ -231,10 +231,10 @@ ofTwo =
 abbrev pub most : List Case
 most =
     -- of a block, of a ledger
-    record { given = mostDays ∷ longestWindow ∷ []; due = 450 ∷ 450 ∷ [] }
-    -- bytes of which all are zero after length and version: as many as 450 days have, 98,662, where the identifier is wrong; as many as 451 have, 98,881
+    record { given = mostDays ∷ longestWindow ∷ []; due = 451 ∷ 451 ∷ [] }
+    -- bytes of which all are zero after length and version: as many as 451 days have, 98,881, where the identifier is wrong; as many as 452 have, 99,100
     ∷ record {
-      given = told (parses (0 ∷ 1 ∷ 129 ∷ 98 ∷ 1 ∷ replicate 98657 0) ∷ parses (0 ∷ 1 ∷ 130 ∷ 61 ∷ 1 ∷ replicate 98876 0) ∷ []);
+      given = told (parses (0 ∷ 1 ∷ 130 ∷ 61 ∷ 1 ∷ replicate 98876 0) ∷ parses (0 ∷ 1 ∷ 131 ∷ 24 ∷ 1 ∷ replicate 99095 0) ∷ []);
       due = 9 ∷ 5 ∷ 8 ∷ 0 ∷ [];
     }
     ∷ []

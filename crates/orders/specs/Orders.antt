@@ -180,14 +180,16 @@ parsing =
 -- opening
 abbrev pub opening : List Case
 opening =
-    -- done: the first day, the last; 4: a byte too few, a byte too many, the room of one for 450 days
-    record { given = opens 130 ident 0 1 ∷ opens 130 ident 36524 1 ∷ opens 129 ident 0 1 ∷ opens 131 ident 0 1 ∷ opens 130 ident 0 450 ∷ []; due = 0 ∷ 0 ∷ 4 ∷ 4 ∷ 4 ∷ [] }
+    -- done: the first day, the last; 4: a byte too few, a byte too many, the room of one for 451 days
+    record { given = opens 130 ident 0 1 ∷ opens 130 ident 36524 1 ∷ opens 129 ident 0 1 ∷ opens 131 ident 0 1 ∷ opens 130 ident 0 451 ∷ []; due = 0 ∷ 0 ∷ 4 ∷ 4 ∷ 4 ∷ [] }
     -- 6: a small letter; past 2099; two days, of which the second is
     ∷ record { given = opens 130 small 0 1 ∷ opens 130 ident 36525 1 ∷ opens 244 ident 36524 2 ∷ []; due = 6 ∷ 6 ∷ 6 ∷ [] }
-    -- 6 before 4, a byte too few each time: these; eleven characters; thirteen; no day; 451 days
+    -- 451 days with the room of one: to the last day of 2099, 4; to the next, 6
+    ∷ record { given = opens 130 ident 36074 451 ∷ opens 130 ident 36075 451 ∷ []; due = 4 ∷ 6 ∷ [] }
+    -- 6 before 4, a byte too few each time: these; eleven characters; thirteen; no day; 452 days
     ∷ record {
       given = opens 129 small 0 1 ∷ opens 129 ident 36525 1 ∷ opens 129 (take 11 ident) 0 1 ∷ opens 129 (ident ++ (48 ∷ [])) 0 1
-          ∷ opens 129 ident 0 0 ∷ opens 129 ident 0 451 ∷ [];
+          ∷ opens 129 ident 0 0 ∷ opens 129 ident 0 452 ∷ [];
       due = replicate 6 6;
     }
     ∷ []
@@ -199,10 +201,10 @@ filing =
     record { given = told (files (ledger 1 absentRoom) (bare ident 0) ∷ []); due = 0 ∷ 0 ∷ [] }
     -- under 16 bytes, 4 before 5 and 8: no byte; the day count cut, so that it reads as 0; no block either time
     ∷ record { given = told (files [] [] ∷ files (take 15 (ledger 1 [])) [] ∷ []); due = 4 ∷ 0 ∷ 4 ∷ 0 ∷ [] }
-    -- a day count that isn't 1 to 450, 5 before 4 and 8: 0 and 451 days with the room of one; no block
-    ∷ record { given = told (files (ledger 0 absentRoom) [] ∷ files (ledger 451 absentRoom) [] ∷ []); due = 5 ∷ 0 ∷ 5 ∷ 0 ∷ [] }
-    -- too short for its count, 4 before 8: 2 and 450 days with the room of one; no block
-    ∷ record { given = told (files (ledger 2 absentRoom) [] ∷ files (ledger 450 absentRoom) [] ∷ []); due = 4 ∷ 0 ∷ 4 ∷ 0 ∷ [] }
+    -- a day count that isn't 1 to 451, 5 before 4 and 8: 0 and 452 days with the room of one; no block
+    ∷ record { given = told (files (ledger 0 absentRoom) [] ∷ files (ledger 452 absentRoom) [] ∷ []); due = 5 ∷ 0 ∷ 5 ∷ 0 ∷ [] }
+    -- too short for its count, 4 before 8: 2 and 451 days with the room of one; no block
+    ∷ record { given = told (files (ledger 2 absentRoom) [] ∷ files (ledger 451 absentRoom) [] ∷ []); due = 4 ∷ 0 ∷ 4 ∷ 0 ∷ [] }
     -- 4 before 5 and 8: a state out of range, in a ledger a byte too short, a byte too long; no block
     ∷ record { given = told (files (take 129 (ledger 1 badRoom)) [] ∷ files (ledger 1 (badRoom ++ (0 ∷ []))) [] ∷ []); due = 4 ∷ 0 ∷ 4 ∷ 0 ∷ [] }
     -- 5 before 8: a state out of range; no block
@@ -227,8 +229,8 @@ asking =
     record { given = asks (ledger 1 heldRoom) 0 ++ asks (ledger 1 heldRoom) 1; due = 0 ∷ 0 ∷ 6 ∷ 6 ∷ [] }
     -- a day outside the window each time. Under 16 bytes, 4 before 5 and 6
     ∷ record { given = asks (take 15 (ledger 1 [])) 1; due = 4 ∷ 4 ∷ [] }
-    -- a day count that isn't 1 to 450, 5 before 4 and 6: 0 and 451 days with the room of one
-    ∷ record { given = asks (ledger 0 absentRoom) 1 ++ asks (ledger 451 absentRoom) 1000; due = replicate 4 5 }
+    -- a day count that isn't 1 to 451, 5 before 4 and 6: 0 and 452 days with the room of one
+    ∷ record { given = asks (ledger 0 absentRoom) 1 ++ asks (ledger 452 absentRoom) 1000; due = replicate 4 5 }
     -- 4 before 5 and 6: a state out of range, in a ledger a byte too short; in one too short for its count
     ∷ record { given = asks (take 129 (ledger 1 badRoom)) 1 ++ asks (ledger 2 badRoom) 2; due = replicate 4 4 }
     -- 5 before 6: a state out of range

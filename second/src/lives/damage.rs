@@ -153,7 +153,7 @@ pub fn sizes(seed: u64) -> Script {
     life.finish("damaged sizes")
 }
 
-fn fit_length(life: &mut Life, size: usize) {
+pub fn fit_length(life: &mut Life, size: usize) {
     give_length(life, size - LENGTH_BYTES);
 }
 

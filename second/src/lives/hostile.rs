@@ -16,7 +16,7 @@ use crate::recorder::{Class, StoreLength, FLAGS_WORD, MOST_ASKED, WORDS_PER_DAY}
 use crate::script::{LONGEST_STORE, MOST_NUMBER};
 
 /// Every call of the recorder, each tried with its own plain values.
-fn every_call(life: &mut Life) {
+pub fn every_call(life: &mut Life) {
     let (time, last) = (life.time(), life.player.recorder.last);
     for event in plain_events(time, last) {
         life.say(event);

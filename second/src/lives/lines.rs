@@ -145,6 +145,7 @@ fn not_understood() -> Vec<String> {
          byte x 0\n\
          cut\n\
          cut x\n\
+         cut {past_block}\n\
          check 1\n\
          keep\n\
          keep {KEPT_BLOCKS}\n\

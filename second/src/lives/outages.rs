@@ -155,26 +155,26 @@ fn one_after_another(life: &mut Life, class: Class) {
     }
 }
 
-fn begin(life: &mut Life, class: Class, time: u64) {
+pub fn begin(life: &mut Life, class: Class, time: u64) {
     let total = life.random.below(TOTAL_MODULUS);
     let counter = life.random.bits() as u32;
     life.set_up(class, UNIT_A_PULSE, time, total, counter);
 }
 
 /// At a second of a day that leaves the calendar long enough for what follows.
-fn begin_anywhere(life: &mut Life, class: Class, second: u64) {
+pub fn begin_anywhere(life: &mut Life, class: Class, second: u64) {
     let day = life.random.below(LATEST_START / 2);
     begin(life, class, day * SECONDS_PER_DAY + second);
 }
 
 /// Energy for the running half-hour.
-fn use_energy(life: &mut Life) {
+pub fn use_energy(life: &mut Life) {
     let pulses = life.random.between(1, life.pulses_left() / 9);
     life.pulses(pulses);
 }
 
 /// Some days, each with a reading, marks and flags of its own.
-fn live(life: &mut Life, days: u64) {
+pub fn live(life: &mut Life, days: u64) {
     for _ in 0..days {
         use_energy(life);
         let event = *life.random.pick(&["access", "reverse", "reset", "meter 7"]);
@@ -185,7 +185,7 @@ fn live(life: &mut Life, days: u64) {
 }
 
 /// To a second of the next day.
-fn live_until(life: &mut Life, second: u64) {
+pub fn live_until(life: &mut Life, second: u64) {
     let time = (life.today() + 1) * SECONDS_PER_DAY + second;
     life.clock(time);
 }
@@ -198,7 +198,7 @@ fn mark(life: &mut Life) {
 }
 
 /// Time passes at once, by Clock or by Off and On.
-fn pass(life: &mut Life, by_on: bool, time: u64) {
+pub fn pass(life: &mut Life, by_on: bool, time: u64) {
     if by_on {
         life.say("off");
         life.on(time);

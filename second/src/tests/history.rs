@@ -1,0 +1,217 @@
+//! Every complete day of the class is there, whatever happens: random lives beside a history that forgets nothing.
+
+use super::*;
+use crate::block::{DEMAND_RESET, METER_CHANGED, POWER_LOST, RATES};
+use crate::calendar::{day_of, ended, HALF_HOURS, SECONDS_PER_DAY, SECONDS_PER_HALF_HOUR};
+use crate::lives;
+use crate::quantities::TOTAL_MODULUS;
+use crate::random::Random;
+
+const WEIGHT: u64 = 10_000;
+
+/// All days since set-up, as a block has them, kept by the events that were accepted.
+struct History {
+    time: u64,
+    total: u64,
+    last: u32,
+    off_since: u64,
+    reverse: bool,
+    level2: bool,
+    first: u64,
+    days: Vec<Day>,
+}
+
+impl History {
+    fn new(given: &Recorder, start: u32) -> History {
+        let mut day = Day { start, ..Day::ZERO };
+        let first = day_of(given.time);
+        for value in &mut day.values[..ended(given.time, first)] {
+            *value = (start % 10_000) as u16;
+        }
+        let (time, total, last) = (given.time, given.total, given.last);
+        History { time, total, last, off_since: 0, reverse: false, level2: false, first, days: vec![day] }
+    }
+
+    fn today(&mut self) -> &mut Day {
+        self.days.last_mut().unwrap()
+    }
+
+    /// A day since set-up.
+    fn day(&self, day: u64) -> &Day {
+        &self.days[(day - self.first) as usize]
+    }
+
+    fn accept(&mut self, event: Event) {
+        match event {
+            Event::Count(counter) => {
+                let pulses = u64::from(counter.wrapping_sub(self.last));
+                self.total = (self.total + pulses * WEIGHT) % TOTAL_MODULUS;
+                self.last = counter;
+            }
+            Event::Clock(time) => self.pass(time),
+            Event::Off => self.off_since = day_of(self.time),
+            Event::On(time) => {
+                self.pass(time);
+                let lost = (self.off_since - self.first) as usize;
+                self.days[lost..].iter_mut().for_each(|day| day.flags |= POWER_LOST);
+            }
+            Event::Access => self.level2 = true,
+            Event::Meter(counter) => {
+                self.last = counter;
+                self.level2 = true;
+                self.today().flags |= METER_CHANGED;
+            }
+            Event::Reset => {
+                self.level2 = true;
+                self.today().flags |= DEMAND_RESET;
+            }
+            Event::Rate(_) => {}
+            Event::Reverse => self.reverse = true,
+        }
+    }
+
+    /// Every half-hour that ends goes to its place in its day; behind a day's last one the next day begins.
+    fn pass(&mut self, time: u64) {
+        let reading = (self.total / 10_000) as u32;
+        for half_hour in self.time / SECONDS_PER_HALF_HOUR..time / SECONDS_PER_HALF_HOUR {
+            let place = (half_hour % HALF_HOURS as u64) as usize;
+            let mark = 1 << (HALF_HOURS - 1 - place);
+            let (reverse, level2) = (self.reverse, self.level2);
+            let today = self.today();
+            today.values[place] = (reading % 10_000) as u16;
+            today.reverse |= if reverse { mark } else { 0 };
+            today.level2 |= if level2 { mark } else { 0 };
+            (self.reverse, self.level2) = (false, false);
+            if place == HALF_HOURS - 1 {
+                self.days.push(Day { start: reading, ..Day::ZERO });
+            }
+        }
+        self.time = time;
+    }
+
+    /// Today as a read sends it.
+    fn today_filled(&self) -> Day {
+        let mut today = *self.day(day_of(self.time));
+        let ended = ended(self.time, day_of(self.time));
+        let fill = if ended == 0 { (today.start % 10_000) as u16 } else { today.values[ended - 1] };
+        today.values[ended..].fill(fill);
+        today
+    }
+}
+
+/// An outstation beside its history.
+struct Watched {
+    outstation: Outstation,
+    history: History,
+}
+
+impl Watched {
+    fn begin(class: Class, random: &mut Random) -> Watched {
+        let time = calendar::write_time(random.below(20_000 * SECONDS_PER_DAY));
+        let total = random.below(TOTAL_MODULUS);
+        let outstation = Outstation::new(class, WEIGHT, &time, total, random.bits() as u32);
+        let history = History::new(&outstation.recorder, (total / 10_000) as u32);
+        Watched { outstation, history }
+    }
+
+    fn class(&self) -> Class {
+        self.outstation.recorder.class.unwrap()
+    }
+
+    /// The complete days that must be there, the newest first.
+    fn complete_days(&self) -> Vec<u64> {
+        let today = day_of(self.history.time);
+        let oldest = today.saturating_sub(self.class().complete_days() as u64).max(self.history.first);
+        (oldest..today).rev().collect()
+    }
+
+    /// An event, and then all that must be there.
+    fn event(&mut self, event: Event) {
+        if self.outstation.event(event) == 0 {
+            self.history.accept(event);
+        }
+        assert_eq!(self.outstation.recorder.time, self.history.time);
+        for day in self.complete_days() {
+            assert_eq!(self.outstation.day(&calendar::write_date(day)), *self.history.day(day));
+        }
+        self.today();
+        if self.outstation.recorder.power {
+            self.read();
+        }
+    }
+
+    /// Of today the start, the flags and what has ended.
+    fn today(&mut self) {
+        let day = day_of(self.history.time);
+        let ended = ended(self.history.time, day);
+        let (stored, kept) = (self.outstation.day(&calendar::write_date(day)), self.history.day(day));
+        assert_eq!((stored.start, stored.flags), (kept.start, kept.flags));
+        assert_eq!(stored.values[..ended], kept.values[..ended]);
+        for (stored, kept) in [(stored.reverse, kept.reverse), (stored.level2, kept.level2)] {
+            assert_eq!(stored % (1 << ended), kept >> (HALF_HOURS - ended));
+        }
+    }
+
+    /// A read of one more than the complete days sends today and all of them.
+    fn read(&mut self) {
+        let block = self.outstation.read(self.class().complete_days() as u32 + 1);
+        let sent = block::read(&block).unwrap().days;
+        let complete = self.complete_days();
+        assert_eq!(sent.len(), complete.len() + 1);
+        assert_eq!(sent[0], self.history.today_filled());
+        let dates = [day_of(self.history.time)].into_iter().chain(complete.iter().copied());
+        for (day, record) in dates.zip(0..) {
+            assert_eq!(block[block::bytes_for(record)..][..6], *calendar::write_date(day).as_bytes());
+        }
+        for (day, sent) in complete.iter().zip(&sent[1..]) {
+            assert_eq!(sent, self.history.day(*day));
+        }
+    }
+}
+
+/// A time later by anything from nothing to a little more than the class's days; now and then an earlier one.
+fn later(watched: &Watched, random: &mut Random) -> u64 {
+    let now = watched.history.time;
+    let held = watched.class().days() as u64;
+    let passed = match random.below(12) {
+        0 => 0,
+        1 => SECONDS_PER_HALF_HOUR - now % SECONDS_PER_HALF_HOUR,
+        2 | 3 => SECONDS_PER_DAY - now % SECONDS_PER_DAY,
+        4 => random.between(held - 2, held + 1) * SECONDS_PER_DAY,
+        5 => random.below(held / 2) * SECONDS_PER_DAY + random.below(SECONDS_PER_DAY),
+        6 => return now.saturating_sub(random.between(1, SECONDS_PER_DAY)),
+        _ => random.below(SECONDS_PER_DAY),
+    };
+    now + passed
+}
+
+/// Anything that may happen, what is refused among it.
+fn any_event(watched: &Watched, random: &mut Random) -> Event {
+    let recorder = &watched.outstation.recorder;
+    let left = lives::pulses_left(recorder);
+    match random.below(16) {
+        0..=4 => Event::Count(recorder.last.wrapping_add(random.below(left + left / 8 + 2) as u32)),
+        5..=8 => Event::Clock(later(watched, random)),
+        9 => Event::Off,
+        10 | 11 => Event::On(later(watched, random)),
+        12 => Event::Access,
+        13 => Event::Reverse,
+        14 => Event::Meter(random.bits() as u32),
+        _ if random.once_in(2) => Event::Reset,
+        _ => Event::Rate(random.below(RATES as u64 + 2) as u32),
+    }
+}
+
+#[test]
+fn every_complete_day_is_there_and_is_read() {
+    for (class, seed) in Class::ALL.into_iter().zip(1..) {
+        let mut random = Random::new(seed);
+        for _ in 0..5 {
+            let mut watched = Watched::begin(class, &mut random);
+            while watched.history.days.len() <= 2 * class.days() {
+                let event = any_event(&watched, &mut random);
+                watched.event(event);
+            }
+        }
+    }
+}
