@@ -119,6 +119,13 @@ static void damage(uint8_t *at, uint64_t *seed) {
     }
 }
 
+/* Another PPP, which may stand there. */
+static void rename_block(uint8_t *identifier, uint64_t *seed) {
+    static const char free_characters[] = "ABCXYZabcxyz0189";
+    for (size_t i = 0; i < COP6_PPP; i++)
+        identifier[i] = (uint8_t)free_characters[sample_next(seed) % (sizeof free_characters - 1)];
+}
+
 /* Another flag, mark, value or start in a block that mostly stays right: what a ledger that holds the day must refuse, and tell as the first difference. */
 static void alter(uint8_t *block, uint32_t sent, uint32_t k, uint64_t *seed) {
     uint32_t what = sample_next(seed) % 5, i = what == 4 ? sent - 1 : sample_next(seed) % sent, ended = i == 0 ? k : COP6_HALVES;
@@ -140,6 +147,8 @@ static void make_block(struct lent *l, uint32_t life, uint64_t *seed) {
     l->block_length = sample_block(l->block, sent, day, k, life + (sample_next(seed) % 8 == 0));
     if (sent > 0 && sample_next(seed) % 4 == 0)
         alter(l->block, sent, k, seed);
+    if (sample_next(seed) % 2 == 0)
+        rename_block(l->block + HEAD_IDENTIFIER, seed);
     if (sample_next(seed) % 8 == 0)
         memcpy(l->block + HEAD_RESET, sample_next(seed) % 2 ? "24022907" : "00000001", HEAD_RATES - HEAD_RESET);
     for (size_t at = HEAD_KWH; at < HEAD_DAYS; at = at == HEAD_CUMULATIVE ? HEAD_RATES : at + REGISTER_DIGITS)
@@ -200,6 +209,8 @@ static void compare_open(struct lent *l, uint64_t *seed) {
     memcpy(name, SAMPLE_METER, sizeof name);
     if (chance == 1)
         damage(name + sample_next(seed) % COP6_IDENTIFIER, seed);
+    if (chance > 5)
+        rename_block(name, seed);
     if (chance == 2)
         first = LAST_DAY - days + sample_next(seed) % 4;
     if (chance == 3)
@@ -284,6 +295,28 @@ static void compare_questions(const struct lent *l, uint64_t *seed) {
     same_memory(HALVES, l->ledger, l->other, l->length);
 }
 
+/* Every byte at every place of the identifier: of a ledger that is opened, of a block that is read and filed, of a ledger that is filed in. */
+static void compare_identifiers(struct lent *l, uint64_t *seed) {
+    for (size_t place = 0; place < COP6_IDENTIFIER; place++)
+        for (int byte = 0; byte <= UINT8_MAX; byte++) {
+            uint8_t name[COP6_IDENTIFIER];
+            memcpy(name, SAMPLE_METER, sizeof name);
+            name[place] = (uint8_t)byte;
+            same_answer(OPEN, cop6_open(l->ledger, l->length, name, sizeof name, l->first, l->days),
+                        plain_open(l->other, l->length, name, sizeof name, l->first, l->days));
+            same_memory(OPEN, l->ledger, l->other, l->length);
+            compare_open(l, seed);
+            l->lent = l->length;
+            l->block_length = sample_block(l->block, 1, l->first, 1, 0);
+            memcpy(l->block + HEAD_IDENTIFIER, name, sizeof name);
+            compare_block(l, seed);
+            compare_filing(l, seed);
+            memcpy(l->block + HEAD_IDENTIFIER, SAMPLE_METER, sizeof name);
+            put_in_ledger(l, place, 1, (uint32_t)byte);
+            compare_filing(l, seed);
+        }
+}
+
 /* ---- the whole */
 
 /* Prints what was seen; 1 where something was not. */
@@ -309,8 +342,8 @@ static int unseen(void) {
 
 int main(void) {
     uint64_t seed = 1;
+    static struct lent l;
     for (int round = 0; round < ROUNDS && !differ; round++) {
-        static struct lent l;
         l.days = 1 + sample_next(&seed) % MOST;
         uint32_t where = sample_next(&seed) % 6;
         l.first = where == 0 ? 0 : where == 1 ? RUNS_ROUND - l.days / 2 : where < 4 ? LAST_DAY + 1 - l.days : 8820;
@@ -326,5 +359,7 @@ int main(void) {
             compare_questions(&l, &seed);
         }
     }
+    if (!differ)
+        compare_identifiers(&l, &seed);
     return differ ? 1 : unseen();
 }

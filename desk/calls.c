@@ -68,6 +68,7 @@ void file_one_day(void) {
 /* Each by its figure; everywhere else they go by their names. */
 static void figures(void) {
     IS(COP6_IDENTIFIER, 12);
+    IS(COP6_PPP, 3);
     IS(COP6_HALVES, 48);
     IS(COP6_RATES, 8);
     IS(COP6_HEADER, 28);
@@ -241,6 +242,37 @@ static void identifier(void) {
     IS(memcmp(out, "ABCX24000017\xee\xee", sizeof out), 0);
 }
 
+/* PPP may be of letters of either case and digits; a ledger keeps the one that it was opened with, and takes blocks of its meter under any. */
+static void naming(void) {
+    uint8_t name[COP6_IDENTIFIER];
+    memcpy(name, "a9ZX24000017", sizeof name);
+    IS(cop6_open(ledger, sizeof ledger, name, COP6_IDENTIFIER, DAY - 1, DAYS), ANSWER(COP6_DONE, 0));
+    one_day("240229011000");
+    memcpy(block + HEAD_IDENTIFIER, "zzz", COP6_PPP);
+    IS(cop6_read(block, block_length), ANSWER(COP6_DONE, 1));
+    IS(cop6_file(ledger, sizeof ledger, block, block_length), ANSWER(COP6_DONE, 2));
+    IS(memcmp(ledger, name, sizeof name), 0);
+    memcpy(ledger_before, ledger, sizeof ledger);
+    for (size_t i = COP6_PPP; i < COP6_IDENTIFIER; i++) {
+        uint8_t was = block[HEAD_IDENTIFIER + i];
+        block[HEAD_IDENTIFIER + i] = i == COP6_PPP ? 'Y' : '9';
+        IS(cop6_file(ledger, sizeof ledger, block, block_length), ANSWER(COP6_OTHER_METER, 0));
+        block[HEAD_IDENTIFIER + i] = 'a';
+        IS(cop6_file(ledger, sizeof ledger, block, block_length), ANSWER(COP6_FIELD, HEAD_IDENTIFIER));
+        block[HEAD_IDENTIFIER + i] = was;
+    }
+    name[COP6_PPP] = 'x';
+    IS(cop6_open(ledger, sizeof ledger, name, COP6_IDENTIFIER, DAY - 1, DAYS), ANSWER(COP6_RANGE, 0));
+    name[COP6_PPP] = 'X';
+    name[0] = '-';
+    IS(cop6_open(ledger, sizeof ledger, name, COP6_IDENTIFIER, DAY - 1, DAYS), ANSWER(COP6_RANGE, 0));
+    IS(memcmp(ledger, ledger_before, sizeof ledger), 0);
+    ledger[0] = '-';
+    IS(cop6_file(ledger, sizeof ledger, block, block_length), ANSWER(COP6_DAMAGED, 0));
+    ledger[0] = 'q';
+    IS(cop6_file(ledger, sizeof ledger, block, block_length), ANSWER(COP6_DONE, 0));
+}
+
 static void filing(void) {
     open_ledger();
     memcpy(ledger_before, ledger, sizeof ledger);
@@ -373,6 +405,7 @@ int main(void) {
     header();
     opening();
     identifier();
+    naming();
     filing();
     missing();
     summary();

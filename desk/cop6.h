@@ -40,11 +40,12 @@ enum {
     COP6_NO_BLOCK = 8,      /* under COP6_BLOCK_BYTES(0) bytes, length or version wrong, not whole records, over COP6_MOST_DAYS of them */
     COP6_FIELD = 9,         /* a wrong character, an unreal date or time, low flag bits set; carries the offset of the first such field */
     COP6_INCONSISTENT = 10, /* the fields are right one by one and do not go together */
-    COP6_OTHER_METER = 11,  /* another identifier than the ledger's */
+    COP6_OTHER_METER = 11,  /* another meter than the ledger's: the last nine characters of the identifiers differ */
     COP6_DIFFERS = 12       /* a start, value or mark other than the one held, or other flags of a day that is complete in both */
 };
 
-#define COP6_IDENTIFIER 12                     /* bytes of an identifier */
+#define COP6_IDENTIFIER 12                     /* bytes of an identifier: PPP, M, YY, XXXXXX */
+#define COP6_PPP 3                             /* of these PPP, A-Z, a-z and 0-9, which the site may set; the others, from COP6_PPP on, are the meter's */
 #define COP6_MOST_DAYS 451                     /* of a block, and of a ledger's window */
 #define COP6_HALVES 48                         /* half-hours of a day */
 #define COP6_RATES 8                           /* rate registers */
@@ -95,11 +96,12 @@ uint32_t cop6_date(uint32_t day);
 uint64_t cop6_ledger_length(uint32_t days);
 
 /* Opens a ledger for a meter, from day `first` on, for 1 to COP6_MOST_DAYS days, all by 2099: every day absent, whatever the bytes were. 6 for an
- * identifier, day or number of days out of range, then 4 where `length` is not cop6_ledger_length(days); carries 0. */
+ * identifier, day or number of days out of range, then 4 where `length` is not cop6_ledger_length(days); carries 0. PPP is kept as it is given here, and
+ * compared with no block's; where it is not known it may be 000. */
 uint64_t cop6_open(uint8_t *ledger, size_t length, const uint8_t *identifier, size_t twelve, uint32_t first, uint32_t days);
 
-/* Files a block: each day of the window takes what the block has of it, if that is more. 0 carries how many half-hours became held. 4, 5; of the block
- * 8, 9 with the offset, 10; 11; 12. */
+/* Files a block of the ledger's meter, whatever its PPP: each day of the window takes what the block has of it, if that is more. 0 carries how many
+ * half-hours became held. 4, 5; of the block 8, 9 with the offset, 10; 11; 12. */
 uint64_t cop6_file(uint8_t *ledger, size_t length, const uint8_t *block, size_t block_length);
 
 /* What filing a block would be refused with 12 for: the first day of the window, and the first part of that day, of which the ledger and the block have
@@ -117,7 +119,7 @@ enum {
 #define COP6_PART_FLAGS (COP6_PART_HALF + COP6_HALVES)
 uint64_t cop6_differs(const uint8_t *ledger, size_t length, const uint8_t *block, size_t block_length, uint64_t *out, size_t room);
 
-/* The meter's identifier, written as COP6_IDENTIFIER characters. 0 carries 0; 4; 5; 7 carries COP6_IDENTIFIER, where `room` is less. Bytes past these stay
+/* The identifier that the ledger was opened for, written as COP6_IDENTIFIER characters. 0 carries 0; 4; 5; 7 carries COP6_IDENTIFIER, where `room` is less. Bytes past these stay
  * as they were. */
 uint64_t cop6_identifier(const uint8_t *ledger, size_t length, uint8_t *out, size_t room);
 

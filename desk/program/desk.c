@@ -45,6 +45,8 @@ static const char notes[] =
     "DATE is YYMMDD; two give a first and a last day, none the whole window. BLOCK may be -, standard input. Readings, values\n"
     "and advances are in units of 10 Wh, times in UTC. A refused block changes nothing; the other blocks of the command are\n"
     "filed all the same. LEDGER.new, beside a ledger, is the desk's own: the file that is to replace it.\n"
+    "IDENTIFIER is twelve characters. A ledger's meter is the last nine: it takes blocks of these whatever the first three are,\n"
+    "which the site may set, and keeps its own as they are given here; where they are not known, 000.\n"
     "\n"
     "Exit status, the highest that holds:\n"
     "0  done\n"

@@ -24,7 +24,7 @@ static int refused_opening(char **args, uint32_t first, uint32_t days, uint64_t 
     free(one_day);
     if (COP6_ANSWER(alone) != COP6_DONE)
         return refused_for(args[0], COP6_ANSWER(alone),
-                           "%s is not an identifier: twelve of A-Z and 0-9, the fourth a letter, the fifth and sixth digits", args[1]);
+                           "%s is not an identifier: three of A-Z, a-z and 0-9, one of A-Z, two digits, six of A-Z and 0-9", args[1]);
     if (days < 1 || days > COP6_MOST_DAYS)
         return refused_for(args[0], COP6_ANSWER(r), "%" PRIu32 " is out of range: a ledger has 1 to %d days", days, COP6_MOST_DAYS);
     return refused_for(args[0], COP6_ANSWER(r), "%" PRIu32 " day%s from %06" PRIu32 " on would end after 991231", days, plural(days), cop6_date(first));

@@ -29,7 +29,7 @@ static const char *meaning(uint32_t answer) {
     case COP6_DAMAGED: return "the ledger is damaged";
     case COP6_NO_BLOCK: return "not a block: its length or version is wrong";
     case COP6_INCONSISTENT: return "its fields do not go together";
-    case COP6_OTHER_METER: return "a block of another meter";
+    case COP6_OTHER_METER: return "a block of another meter: the last nine characters of its identifier are not the ledger's";
     default: return "not an answer that was to be expected";
     }
 }

@@ -59,6 +59,12 @@ filing() {
     expect file_other_order file n.ledger $b/at_0205 $b/at_0110
     holds 'either order gives the same bytes' cmp m.ledger n.ledger
     holds 'the mode is kept' [ "$(stat -c %a m.ledger)" = 604 ]
+    "${desk[@]}" open p.ledger 000${meter:3} 240228 3
+    expect file_other_ppp file p.ledger $b/other_ppp $b/at_0110
+    holds 'a ledger keeps the PPP that it was opened with' [ "$(head -c 12 p.ledger)" = 000${meter:3} ]
+    holds 'but for PPP the bytes are the same' cmp -i 3 m.ledger p.ledger
+    expect list_other_ppp list $b/other_ppp
+    rm p.ledger
     if [ "$(id -u)" = 0 ]; then
         "${desk[@]}" open owned.ledger $meter 240228 3
         chown 1:2 owned.ledger

@@ -11,7 +11,7 @@ pub const OUTPUT_SHORT: u32 = 7;
 pub const NOT_A_BLOCK: u32 = 8;
 pub const WRONG_FIELD: u32 = 9;
 pub const NOT_CONSISTENT: u32 = 10;
-pub const OTHER_IDENTIFIER: u32 = 11;
+pub const OTHER_METER: u32 = 11;
 pub const CONFLICT: u32 = 12;
 
 #[derive(Clone, Copy, Debug, PartialEq, Eq)]

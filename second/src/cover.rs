@@ -2,6 +2,7 @@
 //! scripts of one round, and which answers that the rules allow were not reached.
 
 mod limits;
+mod names;
 
 use crate::answer::*;
 use crate::block::*;
@@ -12,20 +13,21 @@ use crate::quantities::{KWH_DIGITS, VALUE_DIGITS};
 use crate::recorder::{Class, Recorder};
 use crate::script::{self, Player};
 use limits::Limits;
+use names::Names;
 use std::collections::{BTreeMap, BTreeSet};
 
 const ANSWERS: u32 = CONFLICT + 1;
 
 const ANY_EVENT: &[u32] = &[DONE, WRONG_POWER, WRONG_LENGTH, DAMAGED];
+const RANGED: &[u32] = &[DONE, WRONG_POWER, WRONG_LENGTH, DAMAGED, OUT_OF_RANGE];
 const TIMED: &[u32] = &[DONE, WRONG_POWER, WRONG_TIME, WRONG_LENGTH, DAMAGED];
 const READER: &[u32] = &[DONE, NOT_A_BLOCK, WRONG_FIELD, NOT_CONSISTENT];
-const FILING: &[u32] =
-    &[DONE, WRONG_LENGTH, DAMAGED, NOT_A_BLOCK, WRONG_FIELD, NOT_CONSISTENT, OTHER_IDENTIFIER, CONFLICT];
+const FILING: &[u32] = &[DONE, WRONG_LENGTH, DAMAGED, NOT_A_BLOCK, WRONG_FIELD, NOT_CONSISTENT, OTHER_METER, CONFLICT];
 const ASKED_DAY: &[u32] = &[DONE, WRONG_LENGTH, DAMAGED, OUT_OF_RANGE];
 
 /// Each call and the answer numbers that the rules allow it. Opening is always lent the right
 /// length by a script, so its refusal of a wrong one can't be reached there.
-const ALLOWED: [(&str, &[u32]); 20] = [
+const ALLOWED: [(&str, &[u32]); 21] = [
     ("setup", &[DONE, WRONG_LENGTH, OUT_OF_RANGE]),
     ("count", &[DONE, WRONG_POWER, TOO_MANY_UNITS, WRONG_LENGTH, DAMAGED]),
     ("clock", TIMED),
@@ -34,8 +36,9 @@ const ALLOWED: [(&str, &[u32]); 20] = [
     ("access", ANY_EVENT),
     ("meter", ANY_EVENT),
     ("reset", ANY_EVENT),
-    ("rate", &[DONE, WRONG_POWER, WRONG_LENGTH, DAMAGED, OUT_OF_RANGE]),
+    ("rate", RANGED),
     ("reverse", ANY_EVENT),
+    ("ppp", RANGED),
     ("read", &[DONE, WRONG_POWER, WRONG_LENGTH, DAMAGED, OUT_OF_RANGE, OUTPUT_SHORT]),
     ("write", &[DONE, DAMAGED, OUTPUT_SHORT]),
     ("check", READER),
@@ -112,6 +115,7 @@ struct Passed {
     /// Pulse weights with which a half-hour took its last pulses or refused one more, each with the answer.
     filled: BTreeSet<(u64, u32)>,
     limits: Limits,
+    names: Names,
 }
 
 impl Passed {
@@ -124,6 +128,7 @@ impl Passed {
             let before = player.recorder;
             let answer = player.play_line(number, line).unwrap_or_default();
             self.limits.add(&before, line, &answer, &player);
+            self.names.add(&before, line, &answer, &player);
             let word = line.split(|&byte| byte == b' ').next().unwrap_or_default();
             if word == b"count" {
                 self.add_count(&before, line, &answer);
@@ -170,7 +175,8 @@ impl Passed {
             "pulse weights with which a half-hour took its most, and refused one pulse more: {filled} of {weights}"
         );
         let limits = self.limits.told();
-        over == all && read == calendar::DAYS && filled == weights && limits
+        let names = self.names.told();
+        over == all && read == calendar::DAYS && filled == weights && limits && names
     }
 }
 

@@ -2,6 +2,7 @@
 //! its next line can follow from where it stands; the seed alone decides it.
 
 mod boundaries;
+mod characters;
 mod complete;
 mod conflicts;
 mod damage;
@@ -9,15 +10,18 @@ mod dates;
 mod hostile;
 mod lines;
 mod longest;
+mod names;
 mod ordinary;
 mod outages;
 mod weights;
 mod writer;
 
+pub use characters::EDGES;
 pub use weights::WEIGHTS;
 
 use crate::block::{DEMAND_RESET, FLAGS, RATES};
 use crate::calendar;
+use crate::identifier::PPP_LENGTH;
 use crate::quantities::{
     LEAST_WEIGHT, MOST_UNITS, MOST_WEIGHT, THOUSANDTHS_PER_UNIT, THOUSANDTHS_PER_WATT_HOUR, TOTAL_MODULUS,
 };
@@ -25,9 +29,12 @@ use crate::random::Random;
 use crate::recorder::{Class, Recorder, StoreLength};
 use crate::script::{Player, MOST_SCRIPT_BYTES};
 
-/// The example's identifier, and another.
+/// The example's identifier, and another meter's.
 pub const IDENTIFIER: &str = "ABCX24000017";
-pub const OTHER_IDENTIFIER: &str = "ABCX24000018";
+const OTHER_METER: &str = "ABCX24000018";
+
+/// The characters of PPP.
+const LETTERS_AND_DIGITS: &[u8] = b"ABCDEFGHIJKLMNOPQRSTUVWXYZabcdefghijklmnopqrstuvwxyz0123456789";
 
 /// Below the most that a script may have, with room for a last long line.
 const FULL_SCRIPT: usize = MOST_SCRIPT_BYTES - 300_000;
@@ -52,7 +59,7 @@ pub struct Script {
 type Generator = fn(u64) -> Script;
 
 /// The kinds of a round, each with the number of scripts of that kind.
-const KINDS: [(Generator, u64); 35] = [
+const KINDS: [(Generator, u64); 45] = [
     (ordinary::weeks, 16),
     (ordinary::year, 1),
     (ordinary::ledgers, 3),
@@ -88,6 +95,16 @@ const KINDS: [(Generator, u64); 35] = [
     (|seed| complete::days(seed, Class::C), 1),
     (|seed| complete::days(seed, Class::D), 1),
     (longest::longest, 1),
+    (characters::set_ups, 1),
+    (characters::openings, 1),
+    (characters::recorders, 1),
+    (characters::blocks, 1),
+    (characters::ledgers, 1),
+    (characters::events, 1),
+    (names::runs, 2),
+    (names::meters, 1),
+    (names::refusals, 1),
+    (names::marks, 1),
 ];
 
 /// All scripts of one round.
@@ -169,6 +186,15 @@ impl Life {
         self.say(format!("setup {IDENTIFIER} {} {weight} {time} {total} {counter}", letter(class)))
     }
 
+    fn random_ppp(&mut self) -> String {
+        (0..PPP_LENGTH).map(|_| char::from(*self.random.pick(LETTERS_AND_DIGITS))).collect()
+    }
+
+    fn rewrite_ppp(&mut self) {
+        let ppp = self.random_ppp();
+        self.say(format!("ppp {ppp}"));
+    }
+
     fn clock(&mut self, time: u64) -> String {
         let time = self.time_words(time);
         self.say(format!("clock {time}"))
@@ -229,7 +255,8 @@ impl Life {
             let pulses = self.random.below(self.pulses_left() / 3 + 2);
             self.pulses(pulses);
             let last_rate = format!("rate {RATES}");
-            let events = ["access", "reverse", "reset", "rate 2", "meter 77", &last_rate, "#", "#", "#", "#"];
+            let ppp = format!("ppp {}", self.random_ppp());
+            let events = ["access", "reverse", "reset", "rate 2", "meter 77", &last_rate, &ppp, "#", "#", "#", "#"];
             let event = *self.random.pick(&events);
             self.say(event);
             let time = (self.time() + self.random.between(1_000, 20_000)).min(end);
@@ -259,8 +286,13 @@ fn write_into(room: usize) -> String {
     format!("write {room}")
 }
 
-/// The nine events at their plainest, at a present time.
-fn plain_events(time: u64, last: u32) -> [String; 9] {
+/// An identifier of the example's meter.
+fn with_ppp(ppp: &str) -> String {
+    format!("{ppp}{}", &IDENTIFIER[PPP_LENGTH..])
+}
+
+/// The ten events at their plainest, at a present time.
+fn plain_events(time: u64, last: u32) -> [String; 10] {
     [
         format!("count {last}"),
         format!("clock @{time}"),
@@ -271,5 +303,6 @@ fn plain_events(time: u64, last: u32) -> [String; 9] {
         "reset".to_string(),
         "rate 3".to_string(),
         "reverse".to_string(),
+        "ppp Z9z".to_string(),
     ]
 }

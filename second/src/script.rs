@@ -1,6 +1,7 @@
 //! An interpreter of docs/REPLAY.md: it plays a script line by line and answers
 //! each line with the text that the proved program must print.
 
+mod fields;
 mod words;
 
 use words::*;
@@ -8,8 +9,7 @@ pub use words::{MOST_DIGITS, MOST_NUMBER};
 
 use crate::answer::{Answer, DONE};
 use crate::block::{self, Day, Fields, Header};
-use crate::calendar::HALF_HOURS;
-use crate::identifier::{self, Identifier};
+use crate::identifier::Identifier;
 use crate::ledger;
 use crate::listing;
 use crate::recorder::{self, Class, Event, Recorder, SetUp, Store, StoreLength, BLANK};
@@ -86,15 +86,6 @@ impl Player {
     fn obey(&mut self, words: &[Word]) -> Option<String> {
         match words {
             [b"setup", rest @ ..] => self.set_up(rest),
-            [b"count", n] => self.event(Event::Count(number_u32(n)?)),
-            [b"clock", rest @ ..] => self.event(Event::Clock(only_time(rest)?)),
-            [b"off"] => self.event(Event::Off),
-            [b"on", rest @ ..] => self.event(Event::On(only_time(rest)?)),
-            [b"access"] => self.event(Event::Access),
-            [b"meter", n] => self.event(Event::Meter(number_u32(n)?)),
-            [b"reset"] => self.event(Event::Reset),
-            [b"rate", n] => self.event(Event::Rate(number_u32(n)?)),
-            [b"reverse"] => self.event(Event::Reverse),
             [b"read", n] => self.read(number_u32(n)?, block::MOST_BYTES),
             [b"read", n, room] => self.read(number_u32(n)?, number_up_to(room, block::MOST_BYTES)?),
             [b"day", d] => self.show_day(day(d)?),
@@ -177,7 +168,7 @@ impl Player {
                 print_done(0)
             }
             [b"poke", rest @ ..] => self.poke(rest),
-            _ => None,
+            _ => self.step(event(words)?),
         }
     }
 
@@ -212,7 +203,7 @@ impl Player {
         print(answer)
     }
 
-    fn event(&mut self, event: Event) -> Option<String> {
+    fn step(&mut self, event: Event) -> Option<String> {
         let (recorder, mut store) = self.lend();
         let answer;
         (*recorder, answer) = recorder.step(event, &mut store);
@@ -292,111 +283,11 @@ impl Player {
         }
     }
 
-    fn give(&mut self, words: &[Word]) -> Option<String> {
-        let given = &mut self.given;
-        match words {
-            [b"time", n] => given.time = number(n)?,
-            [b"kwh", n] => given.kwh = number_32_bits(n)?,
-            [b"current", n] => given.current = number_32_bits(n)?,
-            [b"previous", n] => given.previous = number_32_bits(n)?,
-            [b"summed", n] => given.cumulative = number_32_bits(n)?,
-            [b"reset", n] => given.reset = number_32_bits(n)?,
-            [b"resets", n] => given.resets = number_32_bits(n)?,
-            [b"days", n] => given.days = number_32_bits(n)?,
-            [b"letter", i, n] => {
-                let n = number_u8(n)?;
-                *given.identifier.get_mut(number_below(i, identifier::LENGTH)?)? = n;
-            }
-            [b"register", i, n] => {
-                let n = number_32_bits(n)?;
-                *given.registers.get_mut(rate_index(i)?)? = n;
-            }
-            [b"start", i, n] => {
-                let n = number_u32(n)?;
-                self.given_day(i)?.start = n;
-            }
-            [b"flags", i, n] => {
-                let n = number(n)?;
-                self.given_day(i)?.flags = n;
-            }
-            [b"reversed", i, n] => {
-                let n = number(n)?;
-                self.given_day(i)?.reverse = n;
-            }
-            [b"level2", i, n] => {
-                let n = number(n)?;
-                self.given_day(i)?.level2 = n;
-            }
-            [b"value", i, j, n] => {
-                let n = number_u16(n)?;
-                let j = number_below(j, HALF_HOURS)?;
-                *self.given_day(i)?.values.get_mut(j)? = n;
-            }
-            _ => return None,
-        }
-        print_done(0)
-    }
-
-    fn given_day(&mut self, word: Word) -> Option<&mut Day> {
-        self.given_days.get_mut(number_below(word, block::MOST_DAYS)?)
-    }
-
     fn open(&mut self, identifier: &Identifier, first: u64, days: u32) -> Option<String> {
         let days = u64::from(days);
         let in_range = (1..=ledger::MOST_DAYS).contains(&days);
         let length = if in_range { ledger::bytes_for(days as usize) } else { 0 };
         self.ledger = vec![0; length];
         print(ledger::open(identifier, first, days, &mut self.ledger))
-    }
-
-    fn poke(&mut self, words: &[Word]) -> Option<String> {
-        let r = &mut self.recorder;
-        match words {
-            [b"class", n] => {
-                let n = number_up_to(n, Class::ALL.len())?;
-                r.class = n.checked_sub(1).and_then(|index| Class::ALL.get(index)).copied();
-            }
-            [b"weight", n] => r.weight = number_32_bits(n)?,
-            [b"time", n] => r.time = number(n)?,
-            [b"power", n] => r.power = yes_or_no(n)?,
-            [b"days", n] => r.days = number_32_bits(n)?,
-            [b"total", n] => r.total = number(n)?,
-            [b"last", n] => r.last = number_u32(n)?,
-            [b"rate", n] => r.rate = number_32_bits(n)?,
-            [b"current", n] => r.current = number_32_bits(n)?,
-            [b"previous", n] => r.previous = number_32_bits(n)?,
-            [b"summed", n] => r.cumulative = number_32_bits(n)?,
-            [b"reset", n] => r.reset = number_32_bits(n)?,
-            [b"resets", n] => r.resets = number_32_bits(n)?,
-            [b"base", n] => r.base = number_32_bits(n)?,
-            [b"reverse", n] => r.reverse = yes_or_no(n)?,
-            [b"level2", n] => r.level2 = yes_or_no(n)?,
-            [b"letter", i, n] => {
-                let n = number_u8(n)?;
-                *r.identifier.get_mut(number_below(i, identifier::LENGTH)?)? = n;
-            }
-            [b"register", i, n] => {
-                let n = number(n)?;
-                *r.registers.get_mut(rate_index(i)?)? = n;
-            }
-            [b"value", i, n] => {
-                let n = number_u16(n)?;
-                *self.lend().1.values.get_mut(number_up_to(i, usize::MAX)?)? = n;
-            }
-            [b"start", i, n] => {
-                let n = number_u32(n)?;
-                *self.lend().1.starts.get_mut(number_up_to(i, usize::MAX)?)? = n;
-            }
-            [b"mark", i, n] => {
-                let n = number(n)?;
-                *self.lend().1.marks.get_mut(number_up_to(i, usize::MAX)?)? = n;
-            }
-            [b"ledger", i, n] => {
-                let n = number_u8(n)?;
-                *self.ledger.get_mut(number_up_to(i, usize::MAX)?)? = n;
-            }
-            _ => return None,
-        }
-        print_done(0)
     }
 }

@@ -2,15 +2,17 @@
 //! the order of the answers, what must hold of any block and any refusal, and of any life.
 
 mod complete;
+mod deliveries;
 mod history;
 mod hold;
+mod names;
 mod order;
 mod weights;
 
 use crate::answer::{Answer, DAMAGED, OUT_OF_RANGE, TOO_MANY_UNITS, WRONG_LENGTH, WRONG_POWER, WRONG_TIME};
 use crate::block::{self, Day, Header};
 use crate::calendar;
-use crate::identifier::Identifier;
+use crate::identifier::{Identifier, Ppp};
 use crate::ledger;
 use crate::listing;
 use crate::recorder::{self, Class, Event, Recorder, SetUp, Store, StoreLength, BLANK};

@@ -13,7 +13,6 @@ use Rattle.store.specs.Class.{rightLengths}
 use Rattle.registers.specs.Energy.{addedOf, unitsWith}
 use Rattle.recorder.specs.declared.SetUp.{SetUp}
 use Rattle.recorder.specs.declared.Event.{Event}
-use Rattle.recorder.specs.declared.Identity.{Identity}
 use Rattle.recorder.specs.declared.Recorder.{Recorder}
 use Rattle.recorder.specs.Recorder.{Mem}
 use Rattle.recorder.specs.Recorder as recorder
@@ -58,7 +57,7 @@ module _ (s : SetUp) (z : Given s) (p : Paper) (x : Mem) (k : Kept s p x) where
       let g = k .at in
       let d = g .demand in
       record {
-        identity = rw (g .identity) (record { identifier = z .identifier; low = z .weight-low; high = z .weight-high });
+        identity = record { identifier = rw (k .name .is) (k .name .right); low = rw (g .identity .1) (z .weight-low); high = rw (g .identity .1) (z .weight-high) };
         clock = record {
           time = omega (arith, k .time, k .century);
           low = omega (arith, g .clock .days, g .clock .begun, z .some);
@@ -94,7 +93,7 @@ module _ (s : SetUp) (z : Given s) (p : Paper) (x : Mem) (k : Kept s p x) where
   some-class = ne-eqb (recorder.capOf r) 0 (λ e. omega (arith, has-cap, z .some))
 
   pub added-is : (c : ℕ) → addedOf (r .identity .weight) (r .energy .last) c .0 ≡ energyOf s p c
-  added-is c = rw (ap (λ (i : Identity). i .weight) (k .at .identity), k .last)
+  added-is c = rw (k .at .identity .1, k .last)
 
   units-are : (c : ℕ) → unitsAfter r c ≡ written.unitsWith s p c
   unfolding unitsWith written.unitsWith

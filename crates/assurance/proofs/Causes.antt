@@ -5,7 +5,6 @@ use mathlib.Core.Path.{_≡_, refl, sym, _∙_, subst}
 use mathlib.Core.Logic.{_↔_}
 use mathlib.Core.Bool.{Bool, true, false, not, cond, _&&_, false≢true}
 use mathlib.Core.List.{List, [], _∷_}
-use native.Mathlib.Nat.{zero-add}
 use native.Mathlib.Omega.{arith}
 use lib.Dec.{eqb}
 use lib.ListN.{length, getD}
@@ -22,8 +21,9 @@ use Rattle.ledger.specs.Layout.{firstOf, daysOf}
 use Rattle.ledger.specs.Rooms.{slot}
 use Rattle.ledger.specs.Judged.{judged}
 use Rattle.rooms.specs.View.{viewOf}
-use Rattle.filing.specs.File.{comparedLength, identAt, sameMeter, agreeAt, agrees, readOf, fileOf}
+use Rattle.filing.specs.File.{sameMeter, agreeAt, agrees, readOf, fileOf}
 use Rattle.filing.proofs.Filing.{file-answer}
+use Rattle.filing.proofs.Meter.{meter-iff}
 use Rattle.filing.proofs.Answers.{answer-is}
 use Rattle.assurance.specs.Causes.{Alike, SameIdentifier, AllAlike, Causes}
 
@@ -98,13 +98,6 @@ picks P Q false b p q = record {
 }
 
 module _ (l b : List ℕ) where
-  meter-is : (sameMeter l b ≡ true) ↔ SameIdentifier l b
-  unfolding sameMeter identAt
-  meter-is = (
-    λ e q h. rw zero-add at (eqb-true (getD l (0 + q) 0) (getD b (5 + (0 + q)) 0) (all-at (identAt l b) comparedLength e q h)),
-    λ s. all-of (identAt l b) comparedLength (λ q h. rw zero-add (eq-eqb (getD l q 0) (getD b (5 + q) 0) (s q h))),
-  )
-
   days-are : (agrees l b ≡ true) ↔ AllAlike l b
   unfolding agrees agreeAt
   days-are = (
@@ -116,5 +109,5 @@ module _ (l b : List ℕ) where
   unfolding readOf
   causes n vs good read =
       let e : fileOf l b .answer .number ≡ cond (not (sameMeter l b)) 11 (cond (not (agrees l b)) 12 0) = answer-is l b ∙ file-answer l b 0 (sym good) refl ∙ rw read in
-      let c = subst (Picks (SameIdentifier l b) (AllAlike l b)) (sym e) (picks (SameIdentifier l b) (AllAlike l b) (sameMeter l b) (agrees l b) meter-is days-are) in
+      let c = subst (Picks (SameIdentifier l b) (AllAlike l b)) (sym e) (picks (SameIdentifier l b) (AllAlike l b) (sameMeter l b) (agrees l b) (meter-iff l b) days-are) in
       record { other = c .eleven; differs = c .twelve; filed = c .none }

@@ -21,14 +21,15 @@ use Rattle.block.specs.declared.Answer.{Answer}
 use Rattle.block.specs.Fields.{identIn}
 use Rattle.block.specs.Parse.{fields, parse}
 use Rattle.format.specs.Numbers.{binary, numAt}
+use Rattle.format.specs.Identifier.{identLength, identOk, SameMeter}
 use Rattle.days.specs.Day.{History, Day, count}
 use Rattle.days.specs.View.{Carries, Honest}
-use Rattle.days.specs.Desk.{Desk, Filed, dayIn, fresh, heldIn}
+use Rattle.days.specs.Desk.{Desk, dayIn, fresh, heldIn}
 use Rattle.days.specs.Desk as desk
 use Rattle.days.specs.Told.{AllHonest, untaken}
 use Rattle.days.specs.Told as told
 use Rattle.days.specs.Energy.{Steady, Metered, Unbroken, advances, Within, Close}
-use Rattle.days.proofs.Fold.{reaches, cuts, fit-blocks, run-fresh}
+use Rattle.days.proofs.Fold.{reaches, cuts, fit-blocks}
 use Rattle.ledger.specs.Layout.{lengthOf, firstOf, daysOf}
 use Rattle.ledger.specs.Rooms.{slot, pack}
 use Rattle.ledger.specs.Judged.{ledgerChecks, judged}
@@ -44,7 +45,8 @@ use Rattle.kept.specs.Desk.{filedAs, fileAll, takenBy}
 use Rattle.kept.specs.Desk as bytes
 use Rattle.filing.proofs.Offered.{view-parsed}
 use Rattle.kept.proofs.Taken.{parsed-taken}
-use Rattle.kept.proofs.Opened.{opened-laws, opened-fresh, window, opened-kept, opened-energy, run-bytes, any-order}
+use Rattle.kept.proofs.Opened.{opened-laws, opened-fresh, window, opened-kept, opened-energy, run-bytes, opened-packed, any-order}
+use Rattle.kept.proofs.Meter.{any-meter}
 use Rattle.store.specs.Store.{Store}
 use Rattle.recorder.specs.declared.SetUp.{SetUp}
 use Rattle.recorder.specs.declared.Event.{Event}
@@ -125,7 +127,10 @@ module _ (s : SetUp) (x : Store) (cs : List Call) (accepted : setUp s x .answer 
     many : ℕ
     values : List ℕ
     reads : parse b ≡ fields many values
-    meter : identIn values ≡ numAt binary (s .identifier) 0 12
+    own : List ℕ
+    right : identOk own 0 ≡ true
+    same : SameMeter own (s .identifier)
+    meter : identIn values ≡ numAt binary own 0 identLength
     view : Honest h (viewOf b)
 
   block-of : (b : List ℕ) → SentAfter s (blankPaper s) es b → Block b
@@ -133,6 +138,9 @@ module _ (s : SetUp) (x : Store) (cs : List Call) (accepted : setUp s x .answer 
     many = daysDue s p (r .asked);
     values = fieldsDue s p (r .asked);
     reads = reads;
+    own = p .identifier;
+    right = k .name .right;
+    same = k .name .meter;
     meter = ident-due s z p y k (r .asked);
     view = rw (view-parsed b (daysDue s p (r .asked)) (fieldsDue s p (r .asked)) reads) (honest s z p y k (r .asked) (paper s es) past);
   }
@@ -164,10 +172,7 @@ module _ (s : SetUp) (x : Store) (cs : List Call) (accepted : setUp s x .answer 
 
   -- ---- the desk
 
-  module _ (l : List ℕ) (first days : ℕ) (bs : List (List ℕ)) (well : openOf l (s .identifier) first days .answer ≡ 0) (drawn : Drawn s x cs bs) where
-    abbrev id : List ℕ
-    id = s .identifier
-
+  module _ (l id : List ℕ) (first days : ℕ) (bs : List (List ℕ)) (of : SameMeter id (s .identifier)) (well : openOf l id first days .answer ≡ 0) (drawn : Drawn s x cs bs) where
     abbrev hd : List ℕ
     hd = headOf id first days
 
@@ -181,7 +186,7 @@ module _ (s : SetUp) (x : Store) (cs : List Call) (accepted : setUp s x .answer 
     long = opened-well l id first days well .1
 
     takes : (b : List ℕ) → List·Memᴰ b bs → takenBy hd b ≡ true
-    takes b i = let k = block b (drawn b i) in parsed-taken id first days (z .identifier) b (k .many) (k .values) (k .reads) (k .meter)
+    takes b i = let k = block b (drawn b i) in parsed-taken id (k .own) first days (k .right) (λ q past h. of q past h ∙ sym (k .same q past h)) b (k .many) (k .values) (k .reads) (k .meter)
 
     all-honest : AllHonest D h bs
     all-honest b i t = block b (drawn b i) .view
@@ -190,7 +195,7 @@ module _ (s : SetUp) (x : Store) (cs : List Call) (accepted : setUp s x .answer 
     kept-all = opened-kept id first days ok h bs all-honest
 
     -- the theory's ledger is the bytes that filing leaves
-    filed-is : desk.run D (fresh D) bs .ledger ≡ filed s x cs l first days bs
+    filed-is : desk.run D (fresh D) bs .ledger ≡ filed s x cs l id first days bs
     filed-is = run-bytes id first days ok (fresh D) bs ∙ ap (λ (m : List ℕ). fileAll m bs) (sym (opened-fresh id first days ok l long))
 
     window-is : (firstOf hd ≡ first) × (daysOf hd ≡ days)
@@ -210,53 +215,53 @@ module _ (s : SetUp) (x : Store) (cs : List Call) (accepted : setUp s x .answer 
     abbrev f : ℕ → Day
     f = cuts D (opened-laws id first days ok) h (reaches D (opened-laws id first days ok) h bs)
 
-    packed : filed s x cs l first days bs ≡ pack hd (daysOf hd) f
-    packed = sym filed-is ∙ ap (λ (r : Filed (List ℕ)). r .ledger) (run-fresh D (opened-laws id first days ok) h bs all-honest)
+    packed : filed s x cs l id first days bs ≡ pack hd (daysOf hd) f
+    packed = opened-packed id first days ok l long h bs all-honest
 
-    first-is : firstOf (filed s x cs l first days bs) ≡ first
+    first-is : firstOf (filed s x cs l id first days bs) ≡ first
     first-is = ap (λ (m : List ℕ). firstOf m) packed ∙ first-packed hd (daysOf hd) f ∙ window-is .0
 
-    days-is : daysOf (filed s x cs l first days bs) ≡ days
+    days-is : daysOf (filed s x cs l id first days bs) ≡ days
     days-is = ap (λ (m : List ℕ). daysOf m) packed ∙ days-packed hd (daysOf hd) f ∙ window-is .1
 
-    good : judged (filed s x cs l first days bs) ≡ 0
+    good : judged (filed s x cs l id first days bs) ≡ 0
     good =
         let o = opens-of id first days ok in
         ap judged packed
         ∙ pack-good hd f (count-good id first days o) (head-good id first days o)
         (λ i j. fit-of (f i) (fit-blocks D (opened-laws id first days ok) h bs all-honest i j))
 
-    in-window : (i : ℕ) → i < days → inWindow (filed s x cs l first days bs) (first + i) ≡ true
+    in-window : (i : ℕ) → i < days → inWindow (filed s x cs l id first days bs) (first + i) ≡ true
     unfolding inWindow
     in-window i j = rw (first-is, days-is, le-leb first (first + i) (omega arith), lt-ltb (first + i) (first + days) (omega arith))
 
-    asked-is : (i : ℕ) → i < days → asked (filed s x cs l first days bs) (first + i) ≡ 0
+    asked-is : (i : ℕ) → i < days → asked (filed s x cs l id first days bs) (first + i) ≡ 0
     unfolding asked judged ledgerChecks
     asked-is i j =
-        let y = filed s x cs l first days bs in
+        let y = filed s x cs l id first days bs in
         sym (passed-first (ledgerChecks y) (check (not (inWindow y (first + i))) 6 ∷ []) refl good)
         ∙ ap (λ (b : Bool). cond (not b) 6 0) (in-window i j)
 
-    missing-is : (i : ℕ) → i < days → missingOf (filed s x cs l first days bs) (first + i) ≡ dayMissing (slot (filed s x cs l first days bs) i)
+    missing-is : (i : ℕ) → i < days → missingOf (filed s x cs l id first days bs) (first + i) ≡ dayMissing (slot (filed s x cs l id first days bs) i)
     unfolding missingOf
     missing-is i j = let at : first + i - first ≡ i = omega arith in rw (asked-is i j, first-is, at)
 
-    summary-is : (i : ℕ) → i < days → summaryOf (filed s x cs l first days bs) (first + i) ≡ daySummary (slot (filed s x cs l first days bs) i)
+    summary-is : (i : ℕ) → i < days → summaryOf (filed s x cs l id first days bs) (first + i) ≡ daySummary (slot (filed s x cs l id first days bs) i)
     unfolding summaryOf
     summary-is i j = let at : first + i - first ≡ i = omega arith in rw (asked-is i j, first-is, at)
 
     -- ---- each day
 
-    told-day : (i : ℕ) → i < days → told.Told D h bs (first + i) (slot (filed s x cs l first days bs) i)
+    told-day : (i : ℕ) → i < days → told.Told D h bs (first + i) (slot (filed s x cs l id first days bs) i)
     told-day i j =
         subst (λ (y : List ℕ). told.Told D h bs (first + i) (slot y i)) filed-is
         (subst (λ (d : ℕ). told.Told D h bs (d + i) (slot (desk.run D (fresh D) bs .ledger) i)) (window-is .0)
         (kept-all .day i (rw (window-is .1) j)))
 
-    day-iff : (d : ℕ) → told.DayTold D h bs d ↔ DayTold s x cs l first days bs d
+    day-iff : (d : ℕ) → told.DayTold D h bs d ↔ DayTold s x cs l id first days bs d
     day-iff d = (λ t. (t .0, t .1, t .3), λ t. (t .0, t .1, takes (t .0) (t .1), t .2))
 
-    half-iff : (d j : ℕ) → told.HalfTold D h bs d j ↔ HalfTold s x cs l first days bs d j
+    half-iff : (d j : ℕ) → told.HalfTold D h bs d j ↔ HalfTold s x cs l id first days bs d j
     half-iff d j = (λ t. (t .0, t .1, t .3, t .4), λ t. (t .0, t .1, takes (t .0) (t .1), t .2, t .3))
 
     -- the half-hours from k on, up to 48, are those that P leaves out, where P holds of those below k
@@ -266,18 +271,18 @@ module _ (s : SetUp) (x : Store) (cs : List Call) (accepted : setUp s x .answer 
       λ o. by-dec (decLt j k) (λ below. absurd (o .1 (iff j .0 below))) (λ above. (omega arith, omega (arith, o .0))),
     )
 
-    held-at : (i : ℕ) → i < days → heldOn (filed s x cs l first days bs) (first + i) ≡ slot (filed s x cs l first days bs) i
+    held-at : (i : ℕ) → i < days → heldOn (filed s x cs l id first days bs) (first + i) ≡ slot (filed s x cs l id first days bs) i
     unfolding heldOn
     held-at i j = let at : first + i - first ≡ i = omega arith in rw (in-window i j, first-is, at)
 
     -- ---- told is read
 
-    read-by : (b : List ℕ) → List·Memᴰ b bs → Sender s x cs l first days bs b
+    read-by : (b : List ℕ) → List·Memᴰ b bs → Sender s x cs l id first days bs b
     read-by b i = senders (setUp s x .after) cs b .0 (drawn b i)
 
-    module _ (b : List ℕ) (r : Sender s x cs l first days bs b) (d : ℕ) where
+    module _ (b : List ℕ) (r : Sender s x cs l id first days bs b) (d : ℕ) where
       abbrev at-read : Mem
-      at-read = whenRead s x cs l first days bs b r
+      at-read = whenRead s x cs l id first days bs b r
 
       time-said : viewOf b .time ≡ at-read .recorder .clock .time
       time-said = says-read (setUp s x .after) cs b r .0
@@ -285,19 +290,19 @@ module _ (s : SetUp) (x : Store) (cs : List Call) (accepted : setUp s x .answer 
       days-said : viewOf b .days ≡ min (r .asked) (at-read .recorder .clock .days)
       days-said = says-read (setUp s x .after) cs b r .1
 
-      gave : Carries (viewOf b) d → Gave s x cs l first days bs b r d
+      gave : Carries (viewOf b) d → Gave s x cs l id first days bs b r d
       gave c = rw (time-said, days-said) at c
 
-      carried : Gave s x cs l first days bs b r d → Carries (viewOf b) d
+      carried : Gave s x cs l id first days bs b r d → Carries (viewOf b) d
       carried g = rw (time-said, days-said) g
 
-    day-read : (d : ℕ) → DayTold s x cs l first days bs d ↔ DayRead s x cs l first days bs d
+    day-read : (d : ℕ) → DayTold s x cs l id first days bs d ↔ DayRead s x cs l id first days bs d
     day-read d = (
       λ t. let r = read-by (t .0) (t .1) in (t .0, t .1, r, gave (t .0) r d (t .2)),
       λ t. (t .0, t .1, carried (t .0) (t .2) d (t .3)),
     )
 
-    half-read : (d j : ℕ) → j < halvesOfDay → HalfTold s x cs l first days bs d j ↔ HalfRead s x cs l first days bs d j
+    half-read : (d j : ℕ) → j < halvesOfDay → HalfTold s x cs l id first days bs d j ↔ HalfRead s x cs l id first days bs d j
     half-read d j few = (
       λ t.
           let r = read-by (t .0) (t .1) in
@@ -308,12 +313,12 @@ module _ (s : SetUp) (x : Store) (cs : List Call) (accepted : setUp s x .answer 
           (t .0, t .1, carried (t .0) r d (t .3), rw (time-said (t .0) r d) (ended-so (at-read (t .0) r d .recorder .clock .time) d j few .1 (t .4))),
     )
 
-    day-held : (i : ℕ) → i < days → DayHeld s x cs l first days bs (first + i) (heldOn (filed s x cs l first days bs) (first + i)) (missingOf (filed s x cs l first days bs) (first + i))
+    day-held : (i : ℕ) → i < days → DayHeld s x cs l id first days bs (first + i) (heldOn (filed s x cs l id first days bs) (first + i)) (missingOf (filed s x cs l id first days bs) (first + i))
     unfolding dayMissing
     day-held i j =
         let t = told-day i j in
-        let y = slot (filed s x cs l first days bs) i in
-        let half : (j : ℕ) → (j < count y) ↔ HalfTold s x cs l first days bs (first + i) j = λ j. iff-trans (t .half j) (half-iff (first + i) j) in
+        let y = slot (filed s x cs l id first days bs) i in
+        let half : (j : ℕ) → (j < count y) ↔ HalfTold s x cs l id first days bs (first + i) j = λ j. iff-trans (t .half j) (half-iff (first + i) j) in
         rw (missing-is i j, held-at i j)
         record {
           day = iff-trans (t .day) (day-iff (first + i));
@@ -323,13 +328,13 @@ module _ (s : SetUp) (x : Store) (cs : List Call) (accepted : setUp s x .answer 
           flags = t .whole;
           part = t .part;
           missing = refl;
-          lack = lacks (count y) (HalfTold s x cs l first days bs (first + i)) (t .room) half;
+          lack = lacks (count y) (HalfTold s x cs l id first days bs (first + i)) (t .room) half;
         }
 
-    day-summed : (i : ℕ) → i < days → Summed h (first + i) (heldOn (filed s x cs l first days bs) (first + i)) (summaryOf (filed s x cs l first days bs) (first + i))
+    day-summed : (i : ℕ) → i < days → Summed h (first + i) (heldOn (filed s x cs l id first days bs) (first + i)) (summaryOf (filed s x cs l id first days bs) (first + i))
     day-summed i j =
         let t = told-day i j in
-        rw (summary-is i j, held-at i j) (summed h (first + i) (slot (filed s x cs l first days bs) i) (t .room) (t .start) (t .value))
+        rw (summary-is i j, held-at i j) (summed h (first + i) (slot (filed s x cs l id first days bs) i) (t .room) (t .start) (t .value))
 
     -- ---- the energy
 
@@ -344,16 +349,16 @@ module _ (s : SetUp) (x : Store) (cs : List Call) (accepted : setUp s x .answer 
     unfolding unitsOf
     steady = let k = kept s x es accepted in record { up = k .at .energy .up; slow = λ q. omega (arith, k .at .energy .slow q) }
 
-    held-is : (d : ℕ) → dayIn D (desk.run D (fresh D) bs .ledger) d ≡ heldOn (filed s x cs l first days bs) d
+    held-is : (d : ℕ) → dayIn D (desk.run D (fresh D) bs .ledger) d ≡ heldOn (filed s x cs l id first days bs) d
     unfolding dayIn heldOn inWindow
     held-is d = rw (filed-is, first-is, days-is, window-is .0, window-is .1)
 
-    energy : (q n : ℕ) → Unbroken (heldOn (filed s x cs l first days bs)) q n
-        → Within (advances (heldOn (filed s x cs l first days bs)) q n) (counted s x cs q n)
+    energy : (q n : ℕ) → Unbroken (heldOn (filed s x cs l id first days bs)) q n
+        → Within (advances (heldOn (filed s x cs l id first days bs)) q n) (counted s x cs q n)
     energy q n u =
         let y = dayIn D (desk.run D (fresh D) bs .ledger) in
-        let same : y ≡ heldOn (filed s x cs l first days bs) = fun-ext held-is in
-        let e : Close (totalAt s c) (heldOn (filed s x cs l first days bs)) q n =
+        let same : y ≡ heldOn (filed s x cs l id first days bs) = fun-ext held-is in
+        let e : Close (totalAt s c) (heldOn (filed s x cs l id first days bs)) q n =
         subst (λ (g : ℕ → Day). Close (totalAt s c) g q n) same
         (opened-energy id first days ok h bs all-honest (totalAt s c) metered steady q n (subst (λ (g : ℕ → Day). Unbroken g q n) (sym same) u)) in
         let a = total-is s x es accepted (q + n) in
@@ -362,28 +367,31 @@ module _ (s : SetUp) (x : Store) (cs : List Call) (accepted : setUp s x .answer 
 
     -- ---- all of it
 
-    pub holds : Holds s x cs l first days bs
+    pub holds : Holds s x cs l id first days bs
     unfolding heldIn
     holds = record {
-      answers = λ a i. answers-well hd (opened s x cs l first days bs) bs refused-none a i;
+      answers = λ a i. answers-well hd (opened s x cs l id first days bs) bs refused-none a i;
       read = read-by;
       told-day = day-read;
       told-half = half-read;
       day = day-held;
       summary = day-summed;
       newly =
-          carried-newly hd (opened s x cs l first days bs) bs refused-none
+          carried-newly hd (opened s x cs l id first days bs) bs refused-none
           ∙ ap (λ (m : List ℕ). desk.run D m bs .newly) fresh-is
           ∙ kept-all .newly
           ∙ ap (λ (y : List ℕ). sumBelow (λ i. count (slot y i)) (daysOf hd)) filed-is
-          ∙ ap (λ (n : ℕ). sumBelow (λ i. count (slot (filed s x cs l first days bs) i)) n) (window-is .1)
-          ∙ sum-same (λ i. count (slot (filed s x cs l first days bs) i)) (λ i. count (heldOn (filed s x cs l first days bs) (first + i))) days (λ i j. ap count (sym (held-at i j)));
+          ∙ ap (λ (n : ℕ). sumBelow (λ i. count (slot (filed s x cs l id first days bs) i)) n) (window-is .1)
+          ∙ sum-same (λ i. count (slot (filed s x cs l id first days bs) i)) (λ i. count (heldOn (filed s x cs l id first days bs) (first + i))) days (λ i j. ap count (sym (held-at i j)));
       order = λ m ds o same. sym (any-order id first days ok l m long (opened-well m id first days o .1) h bs ds all-honest same);
+      other = λ m j ds also o same.
+          let p = opened-well m j first days o in
+          any-meter id j first days (λ q past h. also q past h ∙ sym (of q past h)) ok (p .0) h l m long (p .1) bs ds all-honest same;
       energy = λ q n u. let e = energy q n u in omega (arith, e .0, e .1);
     }
       where
-        fresh-is : opened s x cs l first days bs ≡ fresh D
+        fresh-is : opened s x cs l id first days bs ≡ fresh D
         fresh-is = opened-fresh id first days ok l long
 
-        refused-none : desk.run D (opened s x cs l first days bs) bs .refused ≡ 0
+        refused-none : desk.run D (opened s x cs l id first days bs) bs .refused ≡ 0
         refused-none = ap (λ (m : List ℕ). desk.run D m bs .refused) fresh-is ∙ none-refused

@@ -136,7 +136,7 @@ demand-2 = record {
 -- ---- demand 3
 
 pub demand-3 : Demand3
-demand-3 s x cs l first days bs accepted well drawn = holds s x cs accepted l first days bs well drawn
+demand-3 s x cs l id first days bs accepted of well drawn = holds s x cs accepted l id first days bs of well drawn
 
 -- ---- the complete days
 

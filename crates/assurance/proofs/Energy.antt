@@ -12,7 +12,7 @@ use Rattle.laws.specs.Tests.{sumBelow}
 use Rattle.laws.proofs.Split.{by-test, by-dec}
 use Rattle.recorder.specs.declared.SetUp.{SetUp}
 use Rattle.recorder.specs.declared.Event.{Event}
-use Rattle.recorder.specs.declared.Event.the-variants.{Count, Clock, Off, On, Access, Meter, Reset, Rate, Reverse}
+use Rattle.recorder.specs.declared.Event.the-variants.{Count, Clock, Off, On, Access, Meter, Reset, Rate, Reverse, Ppp}
 use Rattle.recorder.specs.Recorder.{Mem}
 use Rattle.recorder.specs.Step.{step}
 use Rattle.assurance.specs.Paper.{Paper, now}
@@ -75,6 +75,7 @@ module _ (s : SetUp) (z : Given s) where
   more-step p x k Reset = none-more p (eqb (due s p Reset) 0) (writes s p Reset) refl
   more-step p x k (Rate n) = none-more p (eqb (due s p (Rate n)) 0) (writes s p (Rate n)) refl
   more-step p x k Reverse = none-more p (eqb (due s p Reverse) 0) (writes s p Reverse) refl
+  more-step p x k (Ppp a b c) = none-more p (eqb (due s p (Ppp a b c)) 0) (writes s p (Ppp a b c)) refl
 
   -- the paper's column is the energy counted before half-hour q
   pub before-is : (q : ℕ) (es : List Event) (p : Paper) (x : Mem) → Kept s p x

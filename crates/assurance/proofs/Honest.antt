@@ -73,7 +73,7 @@ module _ (s : SetUp) (z : Given s) (p : Paper) (x : Mem) (k : Kept s p x) (asked
   unfolding headerDue
   eight = length-table 8 (λ i. kwhOf (milliwattHours (p .tape .counts .rate i % totalRound)))
 
-  pub ident-due : identIn vs ≡ numAt binary (s .identifier) 0 12
+  pub ident-due : identIn vs ≡ numAt binary (p .identifier) 0 12
   unfolding headIn fieldsDue given headGiven headerDue
   ident-due = refl
 

@@ -8,7 +8,7 @@ use native.Mathlib.Omega.{arith}
 use lib.ListN.{length, getD}
 use Rattle.laws.specs.Bits.{packBits}
 use Rattle.quantity.specs.Units.{totalRound, demandRound, readingAt, valueAt}
-use Rattle.format.specs.Identifier.{identOk}
+use Rattle.format.specs.Identifier.{identOk, SameMeter}
 use Rattle.store.specs.Class.{daysOf}
 use Rattle.store.specs.Store.{Store, Fits}
 use Rattle.registers.specs.declared.Energy.{Energy}
@@ -18,7 +18,6 @@ use Rattle.registers.specs.declared.Running.{Running}
 use Rattle.registers.specs.Demand.{countRound}
 use Rattle.registers.specs.Energy.{leastWeight, mostWeight, noEnergy}
 use Rattle.recorder.specs.declared.SetUp.{SetUp}
-use Rattle.recorder.specs.declared.Identity.{Identity}
 use Rattle.recorder.specs.Recorder.{Mem}
 use Rattle.recorder.specs.Cause.{mostUnits}
 use Rattle.assurance.specs.Paper.{Counts, Marks, Demands, Tape, Paper, now, totalAt, unitsOf, peakOf, flagsOf}
@@ -28,9 +27,6 @@ capOf s = daysOf (s .class)
 
 abbrev pub firstDay : SetUp → ℕ
 firstDay s = s .time / 86400
-
-abbrev pub identityOf : SetUp → Identity
-identityOf s = record { identifier = s .identifier; class = s .class; weight = s .weight }
 
 -- set-up was accepted
 pub record Given (s : SetUp) : Type 0 where
@@ -107,10 +103,17 @@ pub record StoreKept (s : SetUp) (p : Tape) (q : ℕ) (x : Store) : Type 0 where
   pub marks : (d : ℕ) → Stored s q d → MarksKept (p .marks) d (reached q d) (d % capOf s) (x .marks)
   pub flags : (d : ℕ) → Stored s q d → getD (x .marks) (d % capOf s * 3 + 2) 0 ≡ flagsOf (p .flags) d
 
+-- ---- the identifier: one, and of the set-up's meter
+
+pub record NameKept (s : SetUp) (id kept : List ℕ) : Type 0 where
+  pub is : kept ≡ id
+  pub right : identOk id 0 ≡ true
+  pub meter : SameMeter id (s .identifier)
+
 -- ---- all of it
 
 pub record KeptAt (s : SetUp) (p : Tape) (q : ℕ) (x : Mem) : Type 0 where
-  pub identity : x .recorder .identity ≡ identityOf s
+  pub identity : (x .recorder .identity .class ≡ s .class) × (x .recorder .identity .weight ≡ s .weight)
   pub clock : ClockKept s q (x .recorder .clock)
   pub energy : EnergyKept s (p .counts) q (x .recorder .energy)
   pub demand : DemandKept s (p .counts) (p .demands) q (x .recorder .demand)
@@ -124,13 +127,14 @@ pub record Kept (s : SetUp) (p : Paper) (x : Mem) : Type 0 where
   pub on : x .recorder .clock .on ≡ p .on
   pub last : x .recorder .energy .last ≡ p .last
   pub rate : x .recorder .energy .rate ≡ p .rate
+  pub name : NameKept s (p .identifier) (x .recorder .identity .identifier)
   pub century : p .time < 3155760000
   pub at : KeptAt s (p .tape) (now p) x
 
 -- the recorder's class and its day
 module _ (s : SetUp) (p : Tape) (q : ℕ) (x : Mem) (g : KeptAt s p q x) where
   pub cap-is : daysOf (x .recorder .identity .class) ≡ capOf s
-  cap-is = ap (λ (i : Identity). daysOf (i .class)) (g .identity)
+  cap-is = ap daysOf (g .identity .0)
 
   pub day-is : x .recorder .clock .time / 86400 ≡ q / 48
   day-is = omega (arith, g .clock .here)

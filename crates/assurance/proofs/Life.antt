@@ -25,7 +25,7 @@ use Rattle.registers.specs.Energy.{noEnergy, rateCount}
 use Rattle.registers.specs.Demand.{countRound}
 use Rattle.recorder.specs.declared.SetUp.{SetUp}
 use Rattle.recorder.specs.declared.Event.{Event}
-use Rattle.recorder.specs.declared.Event.the-variants.{Count, Clock, Off, On, Access, Meter, Reset, Rate, Reverse}
+use Rattle.recorder.specs.declared.Event.the-variants.{Count, Clock, Off, On, Access, Meter, Reset, Rate, Reverse, Ppp}
 use Rattle.recorder.specs.Recorder.{Mem}
 use Rattle.recorder.specs.SetUp.{setUp, made}
 use Rattle.assurance.specs.Paper.{Counts, Paper, now, today, totalAt, unitsOf, largest, historyOf}
@@ -40,7 +40,7 @@ use Rattle.assurance.proofs.Start.{given, made-kept}
 use Rattle.assurance.proofs.Answer.{in-range, answer-due}
 use Rattle.assurance.proofs.Run.{kept}
 use Rattle.assurance.proofs.Energy.{before-is, rates-are, all-before}
-use Rattle.assurance.proofs.Registers.{Told, time-is, power-is, counter-is, rate-is, register-is, resets-told}
+use Rattle.assurance.proofs.Registers.{Told, time-is, power-is, counter-is, rate-is, identifier-is, register-is, resets-told}
 use Rattle.assurance.proofs.Happening.{outage-exactly, meter-exactly, reset-exactly, reverse-exactly, level2-exactly}
 use Rattle.assurance.proofs.Sending.{ended-reached, days-are, stored}
 
@@ -55,6 +55,7 @@ refused-none s p (Meter c) n = refl
 refused-none s p Reset n = refl
 refused-none s p (Rate k) n = refl
 refused-none s p Reverse n = refl
+refused-none s p (Ppp a b c) n = refl
 
 -- nothing is counted in a half-hour in which no event was accepted
 none-counted : (s : SetUp) (q : ℕ) (es : List Event) (p : Paper) → (Some s (λ p e. q ≡ now p) p es → ⊥) → countedBefore s (suc q) p es ≡ countedBefore s q p es
@@ -193,6 +194,8 @@ module _ (s : SetUp) (x : Store) (es : List Event) (accepted : setUp s x .answer
     power = k .on ∙ power-is s es (blankPaper s);
     counter = k .last ∙ counter-is s es (blankPaper s);
     active = k .rate ∙ rate-is s es (blankPaper s);
+    identifier = k .name .is ∙ identifier-is s es (blankPaper s);
+    same-meter = λ q past h. ap (λ (id : List ℕ). getD id q 0) (k .name .is) ∙ k .name .meter q past h;
     total = total-told;
     rate = rate-told;
     rates = rates-told;

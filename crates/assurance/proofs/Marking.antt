@@ -17,7 +17,7 @@ use Rattle.registers.specs.Demand.{countRound}
 use Rattle.recorder.specs.declared.SetUp.{SetUp}
 use Rattle.recorder.specs.declared.Recorder.{Recorder}
 use Rattle.recorder.specs.Recorder.{Mem, with}
-use Rattle.recorder.specs.Effect.{flagToday, switchedOff, lastIs, rateIs, wasReset}
+use Rattle.recorder.specs.Effect.{pppIs, flagToday, switchedOff, lastIs, rateIs, wasReset}
 use Rattle.recorder.specs.Effect as effect
 use Rattle.recorder.specs.Cause.{mostUnits}
 use Rattle.assurance.specs.Paper.{Flags, Tape, unitsOf, flagsOf, largest, peakOf}
@@ -84,6 +84,17 @@ module _ (s : SetUp) (p : Tape) (q : ℕ) (x : Mem) (g : KeptAt s p q x) where
     identity = g .identity;
     clock = g .clock;
     energy = energy-kept (r .energy .last) n lo hi;
+    demand = g .demand;
+    running = g .running;
+    no-flags = g .no-flags;
+    store = g .store;
+  }
+
+  pub ppp-kept : (a b c : ℕ) → KeptAt s p q (with x (pppIs a b c r))
+  ppp-kept a b c = record {
+    identity = g .identity;
+    clock = g .clock;
+    energy = g .energy;
     demand = g .demand;
     running = g .running;
     no-flags = g .no-flags;

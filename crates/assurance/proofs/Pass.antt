@@ -16,17 +16,22 @@ use Rattle.assurance.proofs.Close.{close-on}
 record Going (s : SetUp) (p : Tape) (x : Mem) (i : ℕ) (y : Mem) : Type 0 where
   kept : KeptAt s p i y
   energy : y .recorder .energy ≡ x .recorder .energy
+  identity : y .recorder .identity ≡ x .recorder .identity
 
 energy-on : (x : Mem) → closeOne x .recorder .energy ≡ x .recorder .energy
 unfolding closeOne ended
 energy-on x = refl
 
+identity-on : (x : Mem) → closeOne x .recorder .identity ≡ x .recorder .identity
+unfolding closeOne ended
+identity-on x = refl
+
 module _ (s : SetUp) (p : Tape) (q t : ℕ) (x : Mem) (g : KeptAt s p q x) (l : q ≤ t / 1800) where
   going : Going s p x (t / 1800) (forTo closeAt q (t / 1800) x)
   going =
       for-keeps (Going s p x) closeAt q (t / 1800) x l
-      (λ i y _ _ h. record { kept = rw (add-one i) (close-on s p i y (h .kept)); energy = energy-on y ∙ h .energy })
-      (record { kept = g; energy = refl })
+      (λ i y _ _ h. record { kept = rw (add-one i) (close-on s p i y (h .kept)); energy = energy-on y ∙ h .energy; identity = identity-on y ∙ h .identity })
+      (record { kept = g; energy = refl; identity = refl })
 
   pub pass-kept : KeptAt s p (t / 1800) (advanceTo t x)
   unfolding advanceTo
@@ -46,3 +51,7 @@ module _ (s : SetUp) (p : Tape) (q t : ℕ) (x : Mem) (g : KeptAt s p q x) (l : 
   pub pass-energy : advanceTo t x .recorder .energy ≡ x .recorder .energy
   unfolding advanceTo
   pass-energy = rw (g .clock .here) (going .energy)
+
+  pub pass-identity : advanceTo t x .recorder .identity ≡ x .recorder .identity
+  unfolding advanceTo
+  pass-identity = rw (g .clock .here) (going .identity)

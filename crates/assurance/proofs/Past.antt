@@ -9,7 +9,7 @@ use borrow.Author.Tests.{eqb-true, le-ltb}
 use Rattle.laws.proofs.Split.{by-test}
 use Rattle.recorder.specs.declared.SetUp.{SetUp}
 use Rattle.recorder.specs.declared.Event.{Event}
-use Rattle.recorder.specs.declared.Event.the-variants.{Count, Clock, Off, On, Access, Meter, Reset, Rate, Reverse}
+use Rattle.recorder.specs.declared.Event.the-variants.{Count, Clock, Off, On, Access, Meter, Reset, Rate, Reverse, Ppp}
 use Rattle.assurance.specs.Paper.{Paper, now, today, totalAt, flagsOf}
 use Rattle.assurance.specs.Written.{addAfter, writes, due, written, writtenAll}
 use Rattle.assurance.proofs.Marking.{mark-other}
@@ -83,6 +83,13 @@ module _ (s : SetUp) (p : Paper) where
     total = λ h l. refl;
     reverse = λ h l. mark-other (now p) (p .tape .marks .reverse) h (omega arith);
     level2 = λ h l. refl;
+    flags = λ d l. refl;
+  }
+  past-event (Ppp a b c) ok = record {
+    time = omega arith;
+    total = λ h l. refl;
+    reverse = λ h l. refl;
+    level2 = λ h l. mark-other (now p) (p .tape .marks .level2) h (omega arith);
     flags = λ d l. refl;
   }
 

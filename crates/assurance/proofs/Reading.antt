@@ -21,7 +21,6 @@ use Rattle.judgement.proofs.Writable.{written-reads}
 use Rattle.writer.specs.Send.{sent, sendOf}
 use Rattle.writer.proofs.Sent.{send-shaped}
 use Rattle.recorder.specs.declared.SetUp.{SetUp}
-use Rattle.recorder.specs.declared.Identity.{Identity}
 use Rattle.recorder.specs.Recorder.{Mem}
 use Rattle.readout.specs.Read.{rateSent, headerSent, sourceSent, readAnswer, readOf}
 use Rattle.assurance.specs.Paper.{Paper, now}
@@ -43,7 +42,7 @@ module _ (s : SetUp) (z : Given s) (p : Paper) (x : Mem) (k : Kept s p x) where
   header-due : headerSent (x .recorder) ≡ headerDue s p
   unfolding headerSent headerDue
   header-due = λ t. record {
-    identifier = ap (λ (i : Identity). i .identifier) (k .at .identity) t;
+    identifier = k .name .is t;
     time = k .time t;
     kwh = kwhOf (milliwattHours (k .at .energy .total t));
     current = centiKilowatts (k .at .demand .current t);

@@ -13,13 +13,13 @@ use Rattle.laws.proofs.Split.{by-test, by-dec}
 use Rattle.calendar.specs.Clock.{halvesOfDay}
 use Rattle.recorder.specs.declared.SetUp.{SetUp}
 use Rattle.recorder.specs.declared.Event.{Event}
-use Rattle.recorder.specs.declared.Event.the-variants.{Count, Clock, Off, On, Access, Meter, Reset, Rate, Reverse}
+use Rattle.recorder.specs.declared.Event.the-variants.{Count, Clock, Off, On, Access, Meter, Reset, Rate, Reverse, Ppp}
 use Rattle.recorder.specs.Recorder.{Mem}
 use Rattle.recorder.specs.Answer.{eventAnswer, wrongPower}
 use Rattle.recorder.specs.Step.{step}
 use Rattle.assurance.specs.Paper.{Demands, Paper, now, today, unitsOf, largest, peakOf}
 use Rattle.assurance.specs.Written.{addAt, writes, due, written, writtenAll}
-use Rattle.assurance.specs.Meaning.{energyIn, timeSet, powerSet, counterSet, rateSet, setBy, lastSet, countedAt, isReset, resetHalves, found, lastOr, sumOf, daysNamed}
+use Rattle.assurance.specs.Meaning.{energyIn, timeSet, powerSet, counterSet, rateSet, identifierSet, setBy, lastSet, countedAt, isReset, resetHalves, found, lastOr, sumOf, daysNamed}
 use Rattle.assurance.proofs.Kept.{Given, Kept}
 use Rattle.assurance.proofs.Counting.{largest-same}
 use Rattle.assurance.proofs.Past.{Past, past-all}
@@ -47,6 +47,7 @@ each-time s p (Meter c) d = refl
 each-time s p Reset d = refl
 each-time s p (Rate n) d = refl
 each-time s p Reverse d = refl
+each-time s p (Ppp a b c) d = refl
 
 each-counter : (s : SetUp) (p : Paper) (e : Event) → due s p e ≡ 0 → writes s p e .last ≡ counterSet (p .last) e
 each-counter s p (Count c) d = refl
@@ -58,6 +59,7 @@ each-counter s p (Meter c) d = refl
 each-counter s p Reset d = refl
 each-counter s p (Rate n) d = refl
 each-counter s p Reverse d = refl
+each-counter s p (Ppp a b c) d = refl
 
 each-rate : (s : SetUp) (p : Paper) (e : Event) → due s p e ≡ 0 → writes s p e .rate ≡ rateSet (p .rate) e
 each-rate s p (Count c) d = refl
@@ -69,6 +71,19 @@ each-rate s p (Meter c) d = refl
 each-rate s p Reset d = refl
 each-rate s p (Rate n) d = refl
 each-rate s p Reverse d = refl
+each-rate s p (Ppp a b c) d = refl
+
+each-identifier : (s : SetUp) (p : Paper) (e : Event) → due s p e ≡ 0 → writes s p e .identifier ≡ identifierSet (p .identifier) e
+each-identifier s p (Count c) d = refl
+each-identifier s p (Clock t) d = refl
+each-identifier s p Off d = refl
+each-identifier s p (On t) d = refl
+each-identifier s p Access d = refl
+each-identifier s p (Meter c) d = refl
+each-identifier s p Reset d = refl
+each-identifier s p (Rate n) d = refl
+each-identifier s p Reverse d = refl
+each-identifier s p (Ppp a b c) d = refl
 
 -- Clock is taken only while power is on
 each-power : (s : SetUp) (p : Paper) (e : Event) → due s p e ≡ 0 → writes s p e .on ≡ powerSet (p .on) e
@@ -82,6 +97,7 @@ each-power s p (Meter c) d = refl
 each-power s p Reset d = refl
 each-power s p (Rate n) d = refl
 each-power s p Reverse d = refl
+each-power s p (Ppp a b c) d = refl
 
 module _ (s : SetUp) (es : List Event) (p : Paper) where
   pub time-is : writtenAll s p es .time ≡ lastSet s timeSet (p .time) p es
@@ -95,6 +111,9 @@ module _ (s : SetUp) (es : List Event) (p : Paper) where
 
   pub rate-is : writtenAll s p es .rate ≡ lastSet s rateSet (p .rate) p es
   rate-is = set-all s (λ (p : Paper). p .rate) rateSet (each-rate s) es p
+
+  pub identifier-is : writtenAll s p es .identifier ≡ lastSet s identifierSet (p .identifier) p es
+  identifier-is = set-all s (λ (p : Paper). p .identifier) identifierSet (each-identifier s) es p
 
 rate-step : (s : SetUp) (p : Paper) (e : Event) → written s p e .rate ≡ setBy s rateSet (p .rate) p e
 rate-step s p e = set-step s (λ (p : Paper). p .rate) rateSet (each-rate s) p e
@@ -132,6 +151,7 @@ module _ (s : SetUp) (z : Given s) (i : ℕ) where
   more-at p x k Reset = same-rate i p (writes s p Reset) (eqb (due s p Reset) 0) (eqb (p .rate) (suc i)) refl
   more-at p x k (Rate n) = same-rate i p (writes s p (Rate n)) (eqb (due s p (Rate n)) 0) (eqb (p .rate) (suc i)) refl
   more-at p x k Reverse = same-rate i p (writes s p Reverse) (eqb (due s p Reverse) 0) (eqb (p .rate) (suc i)) refl
+  more-at p x k (Ppp a b c) = same-rate i p (writes s p (Ppp a b c)) (eqb (due s p (Ppp a b c)) 0) (eqb (p .rate) (suc i)) refl
 
   pub register-is : (es : List Event) (p : Paper) (x : Mem) → Kept s p x
       → writtenAll s p es .tape .counts .rate i ≡ p .tape .counts .rate i + countedAt s (suc i) (p .rate) p es
@@ -196,6 +216,7 @@ module _ (s : SetUp) (u : ℕ → ℕ) where
       (λ o. rw o (rw o at t))
   told-step p (Rate n) same b qs t = quiet-told u p (writes s p (Rate n)) (eqb (due s p (Rate n)) 0) refl b qs t
   told-step p Reverse same b qs t = quiet-told u p (writes s p Reverse) (eqb (due s p Reverse) 0) refl b qs t
+  told-step p (Ppp x y z) same b qs t = quiet-told u p (writes s p (Ppp x y z)) (eqb (due s p (Ppp x y z)) 0) refl b qs t
 
   -- what had ended stays, so the units that a Reset looks at are those of the whole life
   units-stay : (p w : Paper) → Past s p w → ((q : ℕ) → unitsOf s (w .tape .counts) q ≡ u q) → (q : ℕ) → q < now p → unitsOf s (p .tape .counts) q ≡ u q

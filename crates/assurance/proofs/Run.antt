@@ -2,7 +2,7 @@
 -- Assumes nothing.
 use Prim.Native.Nat.{ℕ, suc, _+_, _-_, _/_, _<_, _≤_}
 use mathlib.Core.Path.{_≡_, refl, ap, _∙_, subst}
-use mathlib.Core.Bool.{false, not}
+use mathlib.Core.Bool.{true, false, not}
 use mathlib.Core.List.{List, [], _∷_}
 use native.Mathlib.Omega.{arith}
 use lib.Dec.{eqb, leb, ltb}
@@ -14,24 +14,27 @@ use Rattle.quantity.specs.Units.{unitsFrom}
 use Rattle.store.specs.Store.{Store}
 use Rattle.registers.specs.declared.Energy.{Energy}
 use Rattle.registers.specs.Energy.{addedOf, energyCounted, rateOk}
+use Rattle.recorder.specs.declared.Identity.{Identity}
 use Rattle.recorder.specs.declared.SetUp.{SetUp}
 use Rattle.recorder.specs.declared.Event.{Event}
-use Rattle.recorder.specs.declared.Event.the-variants.{Count, Clock, Off, On, Access, Meter, Reset, Rate, Reverse}
+use Rattle.recorder.specs.declared.Event.the-variants.{Count, Clock, Off, On, Access, Meter, Reset, Rate, Reverse, Ppp}
 use Rattle.recorder.specs.declared.Recorder.{Recorder}
 use Rattle.recorder.specs.Recorder.{Mem, with}
 use Rattle.recorder.specs.Boundary.{advanceTo}
 use Rattle.recorder.specs.Effect.{after, flagToday, flagFrom}
 use Rattle.recorder.specs.Effect as effect
 use Rattle.recorder.specs.Answer.{inTime, eventChecks, eventAnswer}
+use Rattle.format.specs.Identifier.{pppOk, withPpp}
+use Rattle.format.proofs.Naming.{ppp-stays, ppp-right}
 use Rattle.recorder.specs.Step.{step, run}
 use Rattle.recorder.specs.SetUp.{setUpAnswer, setUp, made}
 use Rattle.recorder.specs.Cause.{mostUnits}
 use Rattle.assurance.specs.Paper.{Tape, Paper, now, totalAt}
 use Rattle.assurance.specs.Written.{counted, accessed, energyOf, unitsWith, writes, due, written, blankPaper, writtenAll, paper}
 use Rattle.assurance.proofs.Kept.{Given, KeptAt, Kept}
-use Rattle.assurance.proofs.Pass.{pass-kept, pass-energy}
+use Rattle.assurance.proofs.Pass.{pass-kept, pass-energy, pass-identity}
 use Rattle.assurance.proofs.Counting.{count-kept}
-use Rattle.assurance.proofs.Marking.{off-kept, last-kept, rate-kept, access-kept, reverse-kept, meter-kept, reset-kept}
+use Rattle.assurance.proofs.Marking.{off-kept, last-kept, rate-kept, ppp-kept, access-kept, reverse-kept, meter-kept, reset-kept}
 use Rattle.assurance.proofs.Outage.{outage-kept}
 use Rattle.assurance.proofs.Start.{given, made-kept}
 use Rattle.assurance.proofs.Answer.{answer-due, added-is}
@@ -63,6 +66,9 @@ module _ (s : SetUp) (p : Paper) where
       let b = both (leb 1 n) (leb n 8) (not-false (rateOk n) (none (Rate n) d .1 .0)) in
       (leb-true _ _ (b .0), leb-true _ _ (b .1))
 
+  real-ppp : (a b c : ℕ) → due s p (Ppp a b c) ≡ 0 → pppOk a b c ≡ true
+  real-ppp a b c d = not-false (pppOk a b c) (none (Ppp a b c) d .1 .0)
+
 -- ---- an accepted event
 
 module _ (s : SetUp) (z : Given s) (p : Paper) (x : Mem) (k : Kept s p x) where
@@ -82,6 +88,11 @@ module _ (s : SetUp) (z : Given s) (p : Paper) (x : Mem) (k : Kept s p x) where
     on = refl;
     last = ap (λ (e : Energy). e .last) (pass-energy s (p .tape) q t x (k .at) (omega arith)) ∙ k .last;
     rate = ap (λ (e : Energy). e .rate) (pass-energy s (p .tape) q t x (k .at) (omega arith)) ∙ k .rate;
+    name = record {
+      is = ap (λ (i : Identity). i .identifier) (pass-identity s (p .tape) q t x (k .at) (omega arith)) ∙ k .name .is;
+      right = k .name .right;
+      meter = k .name .meter;
+    };
     century = l .1;
     at = pass-kept s (p .tape) q t x (k .at) (omega arith);
   }
@@ -98,13 +109,14 @@ module _ (s : SetUp) (z : Given s) (p : Paper) (x : Mem) (k : Kept s p x) where
     on = k .on;
     last = refl;
     rate = k .rate;
+    name = k .name;
     century = k .century;
     at =
         subst (λ (t : Tape). KeptAt s t q (with x (effect.counted c r))) (counted-is c)
         (count-kept s (p .tape) q c x (k .at) (rw (added-is s z p x k c) (few s p c d)));
   }
   event-kept (Clock t) d = passed t (clock-time s p t d)
-  event-kept Off d = record { time = k .time; on = refl; last = k .last; rate = k .rate; century = k .century; at = off-kept s (p .tape) q x (k .at) }
+  event-kept Off d = record { time = k .time; on = refl; last = k .last; rate = k .rate; name = k .name; century = k .century; at = off-kept s (p .tape) q x (k .at) }
   event-kept (On t) d =
       let l = on-time s p t d in
       let y = passed t l in
@@ -115,17 +127,19 @@ module _ (s : SetUp) (z : Given s) (p : Paper) (x : Mem) (k : Kept s p x) where
         on = y .on;
         last = y .last;
         rate = y .rate;
+        name = y .name;
         century = y .century;
         at =
             rw (from, to)
             (outage-kept s (p .tape) (t / 1800) (p .time / 86400) (advanceTo t x) (omega (arith, k .at .clock .begun)) (omega (arith, l .0)) (y .at));
       }
-  event-kept Access d = record { time = k .time; on = k .on; last = k .last; rate = k .rate; century = k .century; at = access-kept s (p .tape) q x (k .at) }
+  event-kept Access d = record { time = k .time; on = k .on; last = k .last; rate = k .rate; name = k .name; century = k .century; at = access-kept s (p .tape) q x (k .at) }
   event-kept (Meter c) d = record {
     time = k .time;
     on = k .on;
     last = refl;
     rate = k .rate;
+    name = k .name;
     century = k .century;
     at = rw today-is (meter-kept s (accessed q (p .tape)) q _ (access-kept s (p .tape) q _ (last-kept s (p .tape) q x (k .at) c)));
   }
@@ -134,13 +148,27 @@ module _ (s : SetUp) (z : Given s) (p : Paper) (x : Mem) (k : Kept s p x) where
     on = k .on;
     last = k .last;
     rate = k .rate;
+    name = k .name;
     century = k .century;
     at = rw today-is (reset-kept s (accessed q (p .tape)) q _ (access-kept s (p .tape) q x (k .at)) (omega (arith, k .time, k .century)));
   }
   event-kept (Rate n) d =
       let l = real-rate s p n d in
-      record { time = k .time; on = k .on; last = k .last; rate = refl; century = k .century; at = rate-kept s (p .tape) q x (k .at) n (l .0) (l .1) }
-  event-kept Reverse d = record { time = k .time; on = k .on; last = k .last; rate = k .rate; century = k .century; at = reverse-kept s (p .tape) q x (k .at) }
+      record { time = k .time; on = k .on; last = k .last; rate = refl; name = k .name; century = k .century; at = rate-kept s (p .tape) q x (k .at) n (l .0) (l .1) }
+  event-kept Reverse d = record { time = k .time; on = k .on; last = k .last; rate = k .rate; name = k .name; century = k .century; at = reverse-kept s (p .tape) q x (k .at) }
+  event-kept (Ppp a b c) d = record {
+    time = k .time;
+    on = k .on;
+    last = k .last;
+    rate = k .rate;
+    name = record {
+      is = ap (withPpp (a ∷ b ∷ c ∷ [])) (k .name .is);
+      right = ppp-right a b c (p .identifier) (real-ppp s p a b c d) (k .name .right);
+      meter = λ j past h. ppp-stays (a ∷ b ∷ c ∷ []) (p .identifier) j past ∙ k .name .meter j past h;
+    };
+    century = k .century;
+    at = access-kept s (p .tape) q _ (ppp-kept s (p .tape) q x (k .at) a b c);
+  }
 
   -- each event, accepted or refused
   pub step-kept : (e : Event) → Kept s (written s p e) (step x e .after)

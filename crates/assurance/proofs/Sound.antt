@@ -140,7 +140,7 @@ module _ (s : SetUp) (z : Given s) (p : Paper) (x : Mem) (k : Kept s p x) where
   pub head-fits : (n : ℕ) → n ≤ mostDays → headFits h n ≡ true
   unfolding headerDue
   head-fits n few =
-      sym (head-is h n true true true few (k .at .demand .date) eight (sym (ident-fits (s .identifier) (z .identifier))) (sym totals-fit) (sym rates-fit))
+      sym (head-is h n true true true few (k .at .demand .date) eight (sym (ident-fits (p .identifier) (k .name .right))) (sym totals-fit) (sym rates-fit))
       ∙ rw (lt-ltb (p .time) 3155760000 (k .century)) (never-counted (p .tape .demands .date) (p .tape .demands .resets) (k .at .demand .never))
 
 -- ---- the days

@@ -119,9 +119,10 @@ module _ (s : SetUp) (z : Given s) where
     on = refl;
     last = refl;
     rate = refl;
+    name = record { is = refl; right = z .identifier; meter = λ q past h. refl };
     century = z .time;
     at = record {
-      identity = refl;
+      identity = (refl, refl);
       clock = record { begun = omega arith; here = refl; days = omega (arith, z .some) };
       energy = record {
         up = λ h. omega arith;

@@ -6,12 +6,13 @@ use mathlib.Core.List.{List}
 use mathlib.Core.Logic.{_↔_}
 use lib.ListN.{getD}
 use Rattle.calendar.specs.Clock.{halvesOfDay}
+use Rattle.format.specs.Identifier.{identLength, pppLength}
 use Rattle.days.specs.Day.{Day, isHeld, startOf, flagsOf, halfAt, count}
 use Rattle.days.specs.View.{offer}
 use Rattle.ledger.specs.Layout.{firstOf, daysOf}
 use Rattle.ledger.specs.Rooms.{slot}
 use Rattle.rooms.specs.View.{viewOf}
-use Rattle.filing.specs.File.{comparedLength, fileOf}
+use Rattle.filing.specs.File.{fileOf}
 
 -- what two holdings of one day both have is the same: start, values and marks, and the flags where both are complete
 pub record Alike (x y : Day) : Type 0 where
@@ -20,9 +21,9 @@ pub record Alike (x y : Day) : Type 0 where
   pub flags : halvesOfDay ≤ count x → halvesOfDay ≤ count y → flagsOf x ≡ flagsOf y
 
 module _ (l b : List ℕ) where
-  -- the ledger's twelve characters are the block's
+  -- past PPP, the ledger's characters are the block's
   abbrev pub SameIdentifier : Type 0
-  SameIdentifier = (q : ℕ) → q < comparedLength → getD l q 0 ≡ getD b (5 + q) 0
+  SameIdentifier = (q : ℕ) → pppLength ≤ q → q < identLength → getD l q 0 ≡ getD b (5 + q) 0
 
   -- every day of the window, as held and as offered
   abbrev pub AllAlike : Type 0

@@ -8,6 +8,7 @@ use mathlib.Core.List.{List, [], _∷_, List·Memᴰ}
 use Rattle.laws.specs.Bits.{bit}
 use Rattle.laws.specs.Tests.{sumBelow}
 use Rattle.calendar.specs.Clock.{secondsOfHalf, secondsOfDay, halvesOfDay, endedOn}
+use Rattle.format.specs.Identifier.{SameMeter, pppOf, withPpp}
 use Rattle.block.specs.declared.Answer.{Answer}
 use Rattle.profile.specs.Profile.{advanceAt}
 use Rattle.days.specs.Day.{History, Day, absent, isHeld, startOf, flagsOf, halfAt, count}
@@ -66,10 +67,10 @@ module _ (s : SetUp) (x : Store) (cs : List Call) where
   abbrev pub Drawn : List (List ℕ) → Type 0
   Drawn bs = (b : List ℕ) → List·Memᴰ b bs → List·Memᴰ b (blocksIn (setUp s x .after) cs)
 
-  module _ (l : List ℕ) (first days : ℕ) (bs : List (List ℕ)) where
+  module _ (l id : List ℕ) (first days : ℕ) (bs : List (List ℕ)) where
     -- the fresh ledger, and the ledger after all of them
     abbrev pub opened : List ℕ
-    opened = openOf l (s .identifier) first days .ledger
+    opened = openOf l id first days .ledger
 
     abbrev pub filed : List ℕ
     filed = fileAll opened bs
@@ -124,9 +125,12 @@ module _ (s : SetUp) (x : Store) (cs : List Call) where
       pub summary : (i : ℕ) → i < days → Summed past (first + i) (heldOn filed (first + i)) (summaryOf filed (first + i))
       -- what was newly held is what is held
       pub newly : carriedAll (answersAll opened bs) ≡ sumBelow (λ i. count (heldOn filed (first + i))) days
-      -- the same blocks in another order, with other repeats, in another fresh ledger: the same bytes
-      pub order : (m : List ℕ) (ds : List (List ℕ)) → openOf m (s .identifier) first days .answer ≡ 0 → ((b : List ℕ) → List·Memᴰ b bs ↔ List·Memᴰ b ds)
-          → fileAll (openOf m (s .identifier) first days .ledger) ds ≡ filed
+      -- the same blocks in another order, with other repeats, in another fresh ledger for the same identifier: the same bytes
+      pub order : (m : List ℕ) (ds : List (List ℕ)) → openOf m id first days .answer ≡ 0 → ((b : List ℕ) → List·Memᴰ b bs ↔ List·Memᴰ b ds)
+          → fileAll (openOf m id first days .ledger) ds ≡ filed
+      -- in one for another identifier of that meter: the same bytes but for PPP, which each keeps as it was opened with
+      pub other : (m j : List ℕ) (ds : List (List ℕ)) → SameMeter j (s .identifier) → openOf m j first days .answer ≡ 0 → ((b : List ℕ) → List·Memᴰ b bs ↔ List·Memᴰ b ds)
+          → fileAll (openOf m j first days .ledger) ds ≡ withPpp (pppOf j) filed
       -- a stretch of half-hours all held: its advances and the energy counted in it are within 10 Wh of each other, the bound itself not reached
       pub energy : (q n : ℕ) → Unbroken (heldOn filed) q n
           → Within (advances (heldOn filed) q n) (counted q n)

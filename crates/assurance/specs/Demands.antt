@@ -9,7 +9,7 @@ use lib.Dec.{eqb}
 use lib.ListN.{length}
 use lib.Seq.{sets}
 use Rattle.laws.specs.Checks.{firstFailing}
-use Rattle.format.specs.Identifier.{identLength}
+use Rattle.format.specs.Identifier.{identLength, SameMeter}
 use Rattle.block.specs.declared.Header.{Header}
 use Rattle.block.specs.Answers.{answer, answerOf}
 use Rattle.block.specs.Layout.{renderBlock}
@@ -94,7 +94,7 @@ pub record Demand1 : Type 0 where
   pub file-answer : (l b : List ℕ) → fileOf l b .answer .number ≡ firstFailing (fileChecks l b)
   pub summary-answer : (l : List ℕ) (day : ℕ) → summaryOf l day .answer ≡ firstFailing (askedChecks l day)
   pub missing-answer : (l : List ℕ) (day : ℕ) → missingOf l day .answer ≡ firstFailing (askedChecks l day)
-  -- a block that the reader takes is refused by a good ledger for another identifier and for what differs, and for nothing else. Where it
+  -- a block that the reader takes is refused by a good ledger for another meter and for what differs, and for nothing else. Where it
   -- differs is refused as filing is, but for 12, which it tells of
   pub causes : (l b : List ℕ) (n : ℕ) (vs : List ℕ) → judged l ≡ 0 → parse b ≡ fields n vs → Causes l b
   pub differs-answer : (l b : List ℕ) → let a = fileOf l b .answer .number in differsOf l b .number ≡ cond (eqb a 12) 0 a
@@ -128,13 +128,14 @@ pub record Demand2 : Type 0 where
   pub rewrites : (b : List ℕ) (n : ℕ) (vs out : List ℕ) → parse b ≡ fields n vs → length b ≤ length out
       → writeOf (headerIn b) n (valuesOf b n) (startsOf b n) (wordsOf b n) out ≡ sent (sets out 0 b) (answer 0 (length b))
 
--- Demand 3: for every accepted set-up, every run of events and reads, every fresh ledger of that meter, and every list of blocks of the run's reads, any left
--- out, any repeated, in any order: filed one after another, they are held exactly as told, as it happened; the rest is missing; and so on (Delivered, `Holds`).
+-- Demand 3: for every accepted set-up, every run of events and reads, every fresh ledger of that meter (the last nine characters, whatever its PPP), and every list of
+-- blocks of the run's reads, any left out, any repeated, in any order: filed one after another, they are held exactly as told, as it happened; the rest is missing; and so
+-- on (Delivered, `Holds`).
 abbrev pub Demand3 : Type 0
 Demand3 =
-    (s : SetUp) (x : Store) (cs : List Call) (l : List ℕ) (first days : ℕ) (bs : List (List ℕ))
-    → setUp s x .answer ≡ 0 → openOf l (s .identifier) first days .answer ≡ 0 → Drawn s x cs bs
-    → Holds s x cs l first days bs
+    (s : SetUp) (x : Store) (cs : List Call) (l id : List ℕ) (first days : ℕ) (bs : List (List ℕ))
+    → setUp s x .answer ≡ 0 → SameMeter id (s .identifier) → openOf l id first days .answer ≡ 0 → Drawn s x cs bs
+    → Holds s x cs l id first days bs
 
 -- The complete days of a class besides today: after any run of events and reads they are in the store whole, as many as there were since set-up, and a read that asks for
 -- one day more than their number sends them all (Complete, `AllComplete`).

@@ -10,6 +10,7 @@ use Rattle.laws.specs.Bits.{bitAt}
 use Rattle.laws.specs.Tests.{sumBelow}
 use Rattle.quantity.specs.Units.{totalRound, demandRound, readingAt, valueAt, unitsFrom}
 use Rattle.calendar.specs.Clock.{secondsOfHalf, halvesOfDay, endedOn}
+use Rattle.format.specs.Identifier.{SameMeter}
 use Rattle.profile.specs.Profile.{advanceAt}
 use Rattle.days.specs.Day.{History}
 use Rattle.store.specs.Store.{Store}
@@ -26,7 +27,7 @@ use Rattle.recorder.specs.SetUp.{setUp}
 use Rattle.recorder.specs.Stored.{startOf, valueOf, reverseWord, level2Word, flagsWord}
 use Rattle.assurance.specs.Paper.{Paper, now, today, largest, historyOf}
 use Rattle.assurance.specs.Written.{due, blankPaper, paper}
-use Rattle.assurance.specs.Meaning.{countedIn, countedBefore, countedAt, timeSet, powerSet, counterSet, rateSet, lastSet, resetHalves, found, lastOr, sumOf, daysNamed, Some, Outage, MeterOn, ResetOn, ReverseIn, Level2In}
+use Rattle.assurance.specs.Meaning.{countedIn, countedBefore, countedAt, timeSet, powerSet, counterSet, rateSet, identifierSet, lastSet, resetHalves, found, lastOr, sumOf, daysNamed, Some, Outage, MeterOn, ResetOn, ReverseIn, Level2In}
 use Rattle.assurance.specs.Sent.{storedDays}
 
 module _ (s : SetUp) (x : Store) (es : List Event) where
@@ -87,11 +88,14 @@ module _ (s : SetUp) (x : Store) (es : List Event) where
 
   pub record Means : Type 0 where
     -- the present: the time of the last accepted Clock or On, or set-up's; power as the last accepted Off or On left it, on at first;
-    -- the counter's value of the last accepted Count or Meter, or set-up's; the rate of the last accepted Rate, or 1
+    -- the counter's value of the last accepted Count or Meter, or set-up's; the rate of the last accepted Rate, or 1;
+    -- set-up's identifier, with the PPP of each accepted Ppp in its place, and so of one meter for life
     pub time : end .recorder .clock .time ≡ lastSet s timeSet (s .time) (blankPaper s) es
     pub power : end .recorder .clock .on ≡ lastSet s powerSet true (blankPaper s) es
     pub counter : end .recorder .energy .last ≡ lastSet s counterSet (s .counter) (blankPaper s) es
     pub active : end .recorder .energy .rate ≡ lastSet s rateSet 1 (blankPaper s) es
+    pub identifier : end .recorder .identity .identifier ≡ lastSet s identifierSet (s .identifier) (blankPaper s) es
+    pub same-meter : SameMeter (end .recorder .identity .identifier) (s .identifier)
     -- the registers
     pub total : end .recorder .energy .total .0 ≡ (s .total .0 + countedIn s (blankPaper s) es) % totalRound
     -- each rate register: the energy of the Counts accepted while its rate was active; all eight together, with the start total, are the total

@@ -1,4 +1,4 @@
--- What is said of a run from its events alone: time, power, counter and active rate; the energy counted, and at each rate, in thousandths of a watt-hour; the half-hours of the Resets and what each
+-- What is said of a run from its events alone: time, power, counter, active rate and identifier; the energy counted, and at each rate, in thousandths of a watt-hour; the half-hours of the Resets and what each
 -- found; and whether some event of a kind was accepted.
 use Prim.Native.Nat.{ℕ, suc, _+_, _-_, _*_, _/_, _≤_}
 use mathlib.Core.Path.{_≡_}
@@ -7,13 +7,14 @@ use mathlib.Core.Bool.{Bool, true, false, cond, _&&_}
 use mathlib.Core.List.{List, [], _∷_}
 use lib.Dec.{eqb, ltb}
 use Rattle.calendar.specs.Clock.{secondsOfDay, halvesOfDay}
+use Rattle.format.specs.Identifier.{withPpp}
 use Rattle.recorder.specs.declared.SetUp.{SetUp}
 use Rattle.recorder.specs.declared.Event.{Event}
-use Rattle.recorder.specs.declared.Event.the-variants.{Count, Clock, Off, On, Access, Meter, Reset, Rate, Reverse}
+use Rattle.recorder.specs.declared.Event.the-variants.{Count, Clock, Off, On, Access, Meter, Reset, Rate, Reverse, Ppp}
 use Rattle.assurance.specs.Paper.{Paper, now, today, largest}
 use Rattle.assurance.specs.Written.{energyOf, due, written}
 
--- what each event sets: the time by Clock and On, power by Off and On, the counter's last value by Count and Meter, the active rate by Rate
+-- what each event sets: the time by Clock and On, power by Off and On, the counter's last value by Count and Meter, the active rate by Rate, the identifier's PPP by Ppp
 abbrev pub timeSet : ℕ → Event → ℕ
 timeSet t (Count c) = t
 timeSet t (Clock u) = u
@@ -24,6 +25,7 @@ timeSet t (Meter c) = t
 timeSet t Reset = t
 timeSet t (Rate n) = t
 timeSet t Reverse = t
+timeSet t (Ppp a b c) = t
 
 abbrev pub powerSet : Bool → Event → Bool
 powerSet b (Count c) = b
@@ -35,6 +37,7 @@ powerSet b (Meter c) = b
 powerSet b Reset = b
 powerSet b (Rate n) = b
 powerSet b Reverse = b
+powerSet b (Ppp x y z) = b
 
 abbrev pub counterSet : ℕ → Event → ℕ
 counterSet l (Count c) = c
@@ -46,6 +49,7 @@ counterSet l (Meter c) = c
 counterSet l Reset = l
 counterSet l (Rate n) = l
 counterSet l Reverse = l
+counterSet l (Ppp a b c) = l
 
 abbrev pub rateSet : ℕ → Event → ℕ
 rateSet r (Count c) = r
@@ -57,6 +61,19 @@ rateSet r (Meter c) = r
 rateSet r Reset = r
 rateSet r (Rate n) = n
 rateSet r Reverse = r
+rateSet r (Ppp a b c) = r
+
+abbrev pub identifierSet : List ℕ → Event → List ℕ
+identifierSet id (Count c) = id
+identifierSet id (Clock t) = id
+identifierSet id Off = id
+identifierSet id (On t) = id
+identifierSet id Access = id
+identifierSet id (Meter c) = id
+identifierSet id Reset = id
+identifierSet id (Rate n) = id
+identifierSet id Reverse = id
+identifierSet id (Ppp a b c) = withPpp (a ∷ b ∷ c ∷ []) id
 
 module _ (s : SetUp) where
   -- the energy of an event: that of an accepted Count
@@ -70,6 +87,7 @@ module _ (s : SetUp) where
   energyIn p Reset = 0
   energyIn p (Rate n) = 0
   energyIn p Reverse = 0
+  energyIn p (Ppp a b c) = 0
 
   -- that of a list of events, and of the events before half-hour q began
   unfoldable pub countedIn : Paper → List Event → ℕ
@@ -103,6 +121,7 @@ module _ (s : SetUp) where
   isReset Reset = true
   isReset (Rate n) = false
   isReset Reverse = false
+  isReset (Ppp a b c) = false
 
   -- the half-hours of the accepted Resets, in their order
   unfoldable pub resetHalves : Paper → List Event → List ℕ
@@ -125,12 +144,12 @@ MeterOn d p e = (c : ℕ) × (e ≡ Meter c) × (d ≡ today p)
 abbrev pub ResetOn : ℕ → Paper → Event → Type 0
 ResetOn d p e = (e ≡ Reset) × (d ≡ today p)
 
--- Reverse in half-hour q; Access, Meter or Reset in it
+-- Reverse in half-hour q; Access, Meter, Reset or Ppp in it
 abbrev pub ReverseIn : ℕ → Paper → Event → Type 0
 ReverseIn q p e = (e ≡ Reverse) × (q ≡ now p)
 
 abbrev pub Level2In : ℕ → Paper → Event → Type 0
-Level2In q p e = ((e ≡ Access) ⊎ ((e ≡ Reset) ⊎ ((c : ℕ) × (e ≡ Meter c)))) × (q ≡ now p)
+Level2In q p e = ((e ≡ Access) ⊎ ((e ≡ Reset) ⊎ (((c : ℕ) × (e ≡ Meter c)) ⊎ ((a : ℕ) × (b : ℕ) × (c : ℕ) × (e ≡ Ppp a b c))))) × (q ≡ now p)
 
 -- what each Reset found, of Resets in these half-hours: twice the largest units of a half-hour from set-up, or the Reset before, up to its own
 unfoldable pub found : (ℕ → ℕ) → ℕ → List ℕ → List ℕ

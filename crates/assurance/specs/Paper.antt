@@ -2,6 +2,7 @@
 -- Half-hour q is half-hour q % 48 of day q / 48, all numbered from 2000-01-01 00:00 (docs/RULES.md, "Quantities").
 use Prim.Native.Nat.{ℕ, zero, suc, _+_, _-_, _*_, _/_, max}
 use mathlib.Core.Bool.{Bool}
+use mathlib.Core.List.{List}
 use Rattle.laws.specs.Bits.{bit}
 use Rattle.quantity.specs.Units.{readingAt, valueAt, unitsFrom}
 use Rattle.calendar.specs.Clock.{secondsOfHalf, secondsOfDay, halvesOfDay}
@@ -40,12 +41,13 @@ pub record Tape : Type 0 where
   pub flags : Flags
   pub demands : Demands
 
--- the present time, power, the counter's last value, the active rate; and what is written
+-- the present time, power, the counter's last value, the active rate, the identifier; and what is written
 pub record Paper : Type 0 where
   pub time : ℕ
   pub on : Bool
   pub last : ℕ
   pub rate : ℕ
+  pub identifier : List ℕ
   pub tape : Tape
 
 -- the running half-hour, and today

@@ -35,7 +35,7 @@ headerDue s p =
     let c = p .tape .counts in
     let d = p .tape .demands in
     record {
-      identifier = s .identifier;
+      identifier = p .identifier;
       time = p .time;
       kwh = kwhOf (milliwattHours (totalAt s c (suc (now p)) % totalRound));
       current = centiKilowatts (peakOf s c (d .since) (now p));

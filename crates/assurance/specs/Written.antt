@@ -6,10 +6,11 @@ use mathlib.Core.List.{List, [], _∷_}
 use lib.Dec.{leb, ltb, eqb}
 use Rattle.quantity.specs.Units.{unitsFrom}
 use Rattle.calendar.specs.Clock.{secondsOfHalf, secondsOfDay}
+use Rattle.format.specs.Identifier.{withPpp}
 use Rattle.registers.specs.Energy.{addedOf}
 use Rattle.recorder.specs.declared.SetUp.{SetUp}
 use Rattle.recorder.specs.declared.Event.{Event}
-use Rattle.recorder.specs.declared.Event.the-variants.{Count, Clock, Off, On, Access, Meter, Reset, Rate, Reverse}
+use Rattle.recorder.specs.declared.Event.the-variants.{Count, Clock, Off, On, Access, Meter, Reset, Rate, Reverse, Ppp}
 use Rattle.recorder.specs.Answer.{eventAnswer}
 use Rattle.assurance.specs.Paper.{Tape, Paper, now, today, totalAt, peakOf}
 
@@ -69,11 +70,11 @@ resetOn q d peak p =
     }
 
 -- the paper with another present, and with another tape
-abbrev pub present : ℕ → Bool → ℕ → ℕ → Tape → Paper
-present time on last rate tape = record { time = time; on = on; last = last; rate = rate; tape = tape }
+abbrev pub present : ℕ → Bool → ℕ → ℕ → List ℕ → Tape → Paper
+present time on last rate id tape = record { time = time; on = on; last = last; rate = rate; identifier = id; tape = tape }
 
 abbrev pub adds : Paper → Tape → Paper
-adds p tape = present (p .time) (p .on) (p .last) (p .rate) tape
+adds p tape = present (p .time) (p .on) (p .last) (p .rate) (p .identifier) tape
 
 -- the energy of Count(c), and the units that the running half-hour would have after it
 abbrev pub energyOf : SetUp → Paper → ℕ → ℕ
@@ -84,19 +85,20 @@ unitsWith s p c = unitsFrom (totalAt s (p .tape .counts) (now p)) (totalAt s (p 
 
 -- what an accepted event writes
 abbrev pub writes : SetUp → Paper → Event → Paper
-writes s p (Count c) = present (p .time) (p .on) c (p .rate) (counted (now p) (p .rate - 1) (energyOf s p c) (p .tape))
-writes s p (Clock t) = present t true (p .last) (p .rate) (p .tape)
-writes s p Off = present (p .time) false (p .last) (p .rate) (p .tape)
-writes s p (On t) = present t true (p .last) (p .rate) (outaged (today p) (t / secondsOfDay) (p .tape))
+writes s p (Count c) = present (p .time) (p .on) c (p .rate) (p .identifier) (counted (now p) (p .rate - 1) (energyOf s p c) (p .tape))
+writes s p (Clock t) = present t true (p .last) (p .rate) (p .identifier) (p .tape)
+writes s p Off = present (p .time) false (p .last) (p .rate) (p .identifier) (p .tape)
+writes s p (On t) = present t true (p .last) (p .rate) (p .identifier) (outaged (today p) (t / secondsOfDay) (p .tape))
 writes s p Access = adds p (accessed (now p) (p .tape))
-writes s p (Meter c) = present (p .time) (p .on) c (p .rate) (metered (today p) (accessed (now p) (p .tape)))
+writes s p (Meter c) = present (p .time) (p .on) c (p .rate) (p .identifier) (metered (today p) (accessed (now p) (p .tape)))
 writes s p Reset =
     let peak = peakOf s (p .tape .counts) (p .tape .demands .since) (now p) in
     adds p (resetOn (now p) (today p) peak (accessed (now p) (p .tape)))
-writes s p (Rate n) = present (p .time) (p .on) (p .last) n (p .tape)
+writes s p (Rate n) = present (p .time) (p .on) (p .last) n (p .identifier) (p .tape)
 writes s p Reverse = adds p (reversed (now p) (p .tape))
+writes s p (Ppp a b c) = present (p .time) (p .on) (p .last) (p .rate) (withPpp (a ∷ b ∷ c ∷ []) (p .identifier)) (accessed (now p) (p .tape))
 
--- the answer that is due: power, rate, time and units, all by the paper; and the paper after an event
+-- the answer that is due: power, rate or PPP, time and units, all by the paper; and the paper after an event
 unfoldable pub due : SetUp → Paper → Event → ℕ
 due s p e = eventAnswer (p .on) (p .time) (unitsWith s p) e
 
@@ -114,7 +116,7 @@ blankTape s =
     }
 
 abbrev pub blankPaper : SetUp → Paper
-blankPaper s = present (s .time) true (s .counter) 1 (blankTape s)
+blankPaper s = present (s .time) true (s .counter) 1 (s .identifier) (blankTape s)
 
 unfoldable pub writtenAll : SetUp → Paper → List Event → Paper
 writtenAll s p [] = p

@@ -2,7 +2,7 @@
 -- Assumes nothing.
 use mathlib.Core.List.{map}
 use mathlib.Core.Path.{_≡_, refl}
-use Rattle.format.specs.Identifier.{identByte, identTest, identOk}
+use Rattle.format.specs.Identifier.{freeByte, identByte, identTest, identOk, withPpp}
 use Rattle.marks.specs.Marks.{taken}
 use Rattle.laws.specs.Each.{each}
 use Rattle.laws.specs.Tests.{allBelow}
@@ -21,5 +21,5 @@ use Rattle.recorder.specs.Stored.{advanced}
 use Rattle.cases.specs.Cases.{Case, cases}
 
 pub starred : map (λ (c : Case). c .given) cases ≡ map (λ (c : Case). c .due) cases
-unfolding each allBelow leapDay months monthLength realDate identByte identTest identOk taken ratesOk addedOf unitsWith energyCounted pushAt closed opened turned flagAt flagged filled begun inRange ended closeOne advanceTo flagToday flagFrom after wrongPower eventAnswer answerWith answerOf step run setUpWith started fresh blank made setUp endedOn advanced
+unfolding each allBelow leapDay months monthLength realDate freeByte identByte identTest identOk withPpp taken ratesOk addedOf unitsWith energyCounted pushAt closed opened turned flagAt flagged filled begun inRange ended closeOne advanceTo flagToday flagFrom after wrongPower eventAnswer answerWith answerOf step run setUpWith started fresh blank made setUp endedOn advanced
 starred = refl

@@ -1,4 +1,4 @@
--- The starred cases of the table "Reckoned by hand" of docs/RULES.md, its outage of three days, weights that are no whole watt-hours, the daily flags, the marks, and answers 1, 6 and 2; then the days of the classes, the
+-- The starred cases of the table "Reckoned by hand" of docs/RULES.md, its outage of three days, weights that are no whole watt-hours, the daily flags, the marks, PPP, and answers 1, 6 and 2; then the days of the classes, the
 -- characters of an identifier and the ranges of a recorder's fields (docs/RULES.md, "Set-up"), and the order of the answers to set-up and events (docs/RULES.md, "Checked in this
 -- order"), by inputs that two checks refuse. For each what the definitions give, and what is due.
 use Prim.Native.Nat.{ℕ, _-_, _*_}
@@ -16,7 +16,7 @@ use Rattle.store.specs.Class.{completeDays, daysOf, dayWords}
 use Rattle.store.specs.Store.{Store, store}
 use Rattle.recorder.specs.declared.Recorder.{Recorder}
 use Rattle.recorder.specs.declared.Event.{Event}
-use Rattle.recorder.specs.declared.Event.the-variants.{Count, Clock, Off, On, Access, Meter, Reset, Rate, Reverse}
+use Rattle.recorder.specs.declared.Event.the-variants.{Count, Clock, Off, On, Access, Meter, Reset, Rate, Reverse, Ppp}
 use Rattle.recorder.specs.Recorder.{Mem, with, withClock, withEnergy, withDemand, withRunning}
 use Rattle.recorder.specs.Answer.{answerOf}
 use Rattle.recorder.specs.Step.{step, run}
@@ -29,7 +29,7 @@ pub record Case : Type 0 where
   pub given : List ℕ
   pub due : List ℕ
 
--- ABCX24000017, and with a small letter ABCx24000017
+-- ABCX24000017, and with a small letter as M ABCx24000017
 abbrev pub ident : List ℕ
 ident = 65 ∷ 66 ∷ 67 ∷ 88 ∷ 50 ∷ 52 ∷ 48 ∷ 48 ∷ 48 ∷ 48 ∷ 49 ∷ 55 ∷ []
 
@@ -82,13 +82,23 @@ next x e = step x e .after
 abbrev pub begins : List ℕ → Class → ℕ → ℕ → ℕ → Store → ℕ
 begins id class weight time total x = setUp (given id class (milliwattHours weight) time (milliwattHours total) 0) x .answer
 
--- set-up with each of some characters at a place of the identifier: PPP is 0 to 2, M 3, YY 4 and 5, XXXXXX 6 to 11. The characters are the ends of 0-9 and of A-Z with their
--- neighbours, and the ends of the small letters: / 0 9 : @ A Z [ a z
+-- set-up with each of some characters at a place of the identifier: PPP is 0 to 2, M 3, YY 4 and 5, XXXXXX 6 to 11. The characters are the ends of 0-9, of A-Z and of a-z with
+-- their neighbours: / 0 9 : @ A Z [ ` a z {
 abbrev pub ends : List ℕ
-ends = 47 ∷ 48 ∷ 57 ∷ 58 ∷ 64 ∷ 65 ∷ 90 ∷ 91 ∷ 97 ∷ 122 ∷ []
+ends = 47 ∷ 48 ∷ 57 ∷ 58 ∷ 64 ∷ 65 ∷ 90 ∷ 91 ∷ 96 ∷ 97 ∷ 122 ∷ 123 ∷ []
 
 abbrev pub endsAt : ℕ → List ℕ
 endsAt place = map (λ (c : ℕ). begins (set ident place c) A 1 0 0 full) ends
+
+-- events Ppp with each of them as the first, the second and the third character
+abbrev pub pppFirst : List Event
+pppFirst = map (λ (c : ℕ). Ppp c 66 67) ends
+
+abbrev pub pppSecond : List Event
+pppSecond = map (λ (c : ℕ). Ppp 65 c 67) ends
+
+abbrev pub pppThird : List Event
+pppThird = map (λ (c : ℕ). Ppp 65 66 c) ends
 
 -- the answer to Reverse by a recorder of class a, set up at 2000-01-22 00:00:00, that has one group of its fields as given: identifier and weight; time and days stored; total,
 -- active rate and the rate registers; current, previous and cumulative demand, reset date (0 is never, d + 1 is day d) and count; the reading at the running half-hour's start
@@ -136,10 +146,19 @@ beside x s = record { recorder = x .recorder; store = s }
 
 -- one event of each kind
 abbrev pub kinds : List Event
-kinds = Count 0 ∷ Clock 0 ∷ Off ∷ On 0 ∷ Access ∷ Meter 0 ∷ Reset ∷ Rate 1 ∷ Reverse ∷ []
+kinds = Count 0 ∷ Clock 0 ∷ Off ∷ On 0 ∷ Access ∷ Meter 0 ∷ Reset ∷ Rate 1 ∷ Reverse ∷ Ppp 97 90 57 ∷ []
 
 abbrev pub answers : Mem → List Event → List ℕ
 answers x es = map (answerOf x) es
+
+-- the identifier; and what an event in the first half-hour leaves once it has ended: words of Level 2 and reverse marks, flags, reset date and count
+abbrev pub identifier : Mem → List ℕ
+identifier x = x .recorder .identity .identifier
+
+abbrev pub marked : Event → List ℕ
+marked e =
+    let x = run (meter 0 0 0 1) (e ∷ Clock 1800 ∷ []) in
+    level2Word x 0 ∷ reverseWord x 0 ∷ flagsWord x 0 ∷ x .recorder .demand .reset ∷ x .recorder .demand .count ∷ []
 
 abbrev pub cases : List Case
 cases =
@@ -228,19 +247,32 @@ cases =
       due = 4 ∷ 2 ∷ [];
     }
     -- while on, On is 1; while off, any other
-    ∷ record { given = answers (meter 0 0 0 1) kinds; due = 0 ∷ 0 ∷ 0 ∷ 1 ∷ 0 ∷ 0 ∷ 0 ∷ 0 ∷ 0 ∷ [] }
-    ∷ record { given = answers (next (meter 0 0 0 1) Off) kinds; due = 1 ∷ 1 ∷ 1 ∷ 0 ∷ 1 ∷ 1 ∷ 1 ∷ 1 ∷ 1 ∷ [] }
+    ∷ record { given = answers (meter 0 0 0 1) kinds; due = 0 ∷ 0 ∷ 0 ∷ 1 ∷ 0 ∷ 0 ∷ 0 ∷ 0 ∷ 0 ∷ 0 ∷ [] }
+    ∷ record { given = answers (next (meter 0 0 0 1) Off) kinds; due = 1 ∷ 1 ∷ 1 ∷ 0 ∷ 1 ∷ 1 ∷ 1 ∷ 1 ∷ 1 ∷ 1 ∷ [] }
     -- rates 0 to 9
     ∷ record {
       given = answers (meter 0 0 0 1) (map Rate (0 ∷ 1 ∷ 2 ∷ 3 ∷ 4 ∷ 5 ∷ 6 ∷ 7 ∷ 8 ∷ 9 ∷ []));
       due = 6 ∷ 0 ∷ 0 ∷ 0 ∷ 0 ∷ 0 ∷ 0 ∷ 0 ∷ 0 ∷ 6 ∷ [];
     }
+    -- Ppp with the characters / 0 9 : @ A Z [ ` a z { at each of its places
+    ∷ record { given = answers (meter 0 0 0 1) pppFirst; due = 6 ∷ 0 ∷ 0 ∷ 6 ∷ 6 ∷ 0 ∷ 0 ∷ 6 ∷ 6 ∷ 0 ∷ 0 ∷ 6 ∷ [] }
+    ∷ record { given = answers (meter 0 0 0 1) pppSecond; due = 6 ∷ 0 ∷ 0 ∷ 6 ∷ 6 ∷ 0 ∷ 0 ∷ 6 ∷ 6 ∷ 0 ∷ 0 ∷ 6 ∷ [] }
+    ∷ record { given = answers (meter 0 0 0 1) pppThird; due = 6 ∷ 0 ∷ 0 ∷ 6 ∷ 6 ∷ 0 ∷ 0 ∷ 6 ∷ 6 ∷ 0 ∷ 0 ∷ 6 ∷ [] }
+    -- Ppp Z9z: Z9zX24000017; then refused for its third character, its second, its first: the same
+    ∷ record { given = identifier (run (meter 0 0 0 1) (Ppp 90 57 122 ∷ [])); due = 90 ∷ 57 ∷ 122 ∷ 88 ∷ 50 ∷ 52 ∷ 48 ∷ 48 ∷ 48 ∷ 48 ∷ 49 ∷ 55 ∷ [] }
+    ∷ record {
+      given = identifier (run (meter 0 0 0 1) (Ppp 90 57 122 ∷ Ppp 97 98 45 ∷ Ppp 97 45 99 ∷ Ppp 45 98 99 ∷ []));
+      due = 90 ∷ 57 ∷ 122 ∷ 88 ∷ 50 ∷ 52 ∷ 48 ∷ 48 ∷ 48 ∷ 48 ∷ 49 ∷ 55 ∷ [];
+    }
+    -- Ppp in the first half-hour marks Level 2 in it, also where that PPP stood already; no reverse mark, no flag, no reset
+    ∷ record { given = marked (Ppp 90 57 122); due = 1 ∷ 0 ∷ 0 ∷ 0 ∷ 0 ∷ [] }
+    ∷ record { given = marked (Ppp 65 66 67); due = 1 ∷ 0 ∷ 0 ∷ 0 ∷ 0 ∷ [] }
     -- Clock to the last second of 2099 and to the next
     ∷ record { given = answers (meter 5 0 0 1) (Clock 3155759999 ∷ Clock 3155760000 ∷ []); due = 0 ∷ 2 ∷ [] }
     -- while off at second 5, On to the same second, to the last of 2099 and to the next
     ∷ record { given = answers (next (meter 5 0 0 1) Off) (On 5 ∷ On 3155759999 ∷ On 3155760000 ∷ []); due = 0 ∷ 0 ∷ 2 ∷ [] }
     -- while off at second 5, 1 before 6, 2 and 3; and On to an earlier second, 2
-    ∷ record { given = answers (next (meter 5 0 0 1) Off) (Rate 9 ∷ Clock 4 ∷ Count 1000000 ∷ On 4 ∷ []); due = 1 ∷ 1 ∷ 1 ∷ 2 ∷ [] }
+    ∷ record { given = answers (next (meter 5 0 0 1) Off) (Rate 9 ∷ Ppp 97 45 99 ∷ Clock 4 ∷ Count 1000000 ∷ On 4 ∷ []); due = 1 ∷ 1 ∷ 1 ∷ 1 ∷ 2 ∷ [] }
     -- classes a, b, c, d: the complete days held, and with the current day the days in all
     ∷ record { given = map completeDays (A ∷ B ∷ C ∷ D ∷ []); due = 20 ∷ 100 ∷ 250 ∷ 450 ∷ [] }
     ∷ record { given = map daysOf (A ∷ B ∷ C ∷ D ∷ []); due = 21 ∷ 101 ∷ 251 ∷ 451 ∷ [] }
@@ -261,29 +293,29 @@ cases =
       given = map (begins ident A 1 0 0) (lent 1007 21 63 ∷ lent 1009 21 63 ∷ lent 1008 20 63 ∷ lent 1008 22 63 ∷ lent 1008 21 62 ∷ lent 1008 21 64 ∷ []);
       due = replicate 6 4;
     }
-    -- the characters / 0 9 : @ A Z [ a z at each place of the identifier: PPP, from A-Z and 0-9
-    ∷ record { given = endsAt 0; due = 6 ∷ 0 ∷ 0 ∷ 6 ∷ 6 ∷ 0 ∷ 0 ∷ 6 ∷ 6 ∷ 6 ∷ [] }
-    ∷ record { given = endsAt 1; due = 6 ∷ 0 ∷ 0 ∷ 6 ∷ 6 ∷ 0 ∷ 0 ∷ 6 ∷ 6 ∷ 6 ∷ [] }
-    ∷ record { given = endsAt 2; due = 6 ∷ 0 ∷ 0 ∷ 6 ∷ 6 ∷ 0 ∷ 0 ∷ 6 ∷ 6 ∷ 6 ∷ [] }
+    -- the characters / 0 9 : @ A Z [ ` a z { at each place of the identifier: PPP, from A-Z, a-z and 0-9
+    ∷ record { given = endsAt 0; due = 6 ∷ 0 ∷ 0 ∷ 6 ∷ 6 ∷ 0 ∷ 0 ∷ 6 ∷ 6 ∷ 0 ∷ 0 ∷ 6 ∷ [] }
+    ∷ record { given = endsAt 1; due = 6 ∷ 0 ∷ 0 ∷ 6 ∷ 6 ∷ 0 ∷ 0 ∷ 6 ∷ 6 ∷ 0 ∷ 0 ∷ 6 ∷ [] }
+    ∷ record { given = endsAt 2; due = 6 ∷ 0 ∷ 0 ∷ 6 ∷ 6 ∷ 0 ∷ 0 ∷ 6 ∷ 6 ∷ 0 ∷ 0 ∷ 6 ∷ [] }
     -- M, from A-Z
-    ∷ record { given = endsAt 3; due = 6 ∷ 6 ∷ 6 ∷ 6 ∷ 6 ∷ 0 ∷ 0 ∷ 6 ∷ 6 ∷ 6 ∷ [] }
+    ∷ record { given = endsAt 3; due = 6 ∷ 6 ∷ 6 ∷ 6 ∷ 6 ∷ 0 ∷ 0 ∷ 6 ∷ 6 ∷ 6 ∷ 6 ∷ 6 ∷ [] }
     -- YY, digits
-    ∷ record { given = endsAt 4; due = 6 ∷ 0 ∷ 0 ∷ 6 ∷ 6 ∷ 6 ∷ 6 ∷ 6 ∷ 6 ∷ 6 ∷ [] }
-    ∷ record { given = endsAt 5; due = 6 ∷ 0 ∷ 0 ∷ 6 ∷ 6 ∷ 6 ∷ 6 ∷ 6 ∷ 6 ∷ 6 ∷ [] }
+    ∷ record { given = endsAt 4; due = 6 ∷ 0 ∷ 0 ∷ 6 ∷ 6 ∷ 6 ∷ 6 ∷ 6 ∷ 6 ∷ 6 ∷ 6 ∷ 6 ∷ [] }
+    ∷ record { given = endsAt 5; due = 6 ∷ 0 ∷ 0 ∷ 6 ∷ 6 ∷ 6 ∷ 6 ∷ 6 ∷ 6 ∷ 6 ∷ 6 ∷ 6 ∷ [] }
     -- XXXXXX, from A-Z and 0-9
-    ∷ record { given = endsAt 6; due = 6 ∷ 0 ∷ 0 ∷ 6 ∷ 6 ∷ 0 ∷ 0 ∷ 6 ∷ 6 ∷ 6 ∷ [] }
-    ∷ record { given = endsAt 7; due = 6 ∷ 0 ∷ 0 ∷ 6 ∷ 6 ∷ 0 ∷ 0 ∷ 6 ∷ 6 ∷ 6 ∷ [] }
-    ∷ record { given = endsAt 8; due = 6 ∷ 0 ∷ 0 ∷ 6 ∷ 6 ∷ 0 ∷ 0 ∷ 6 ∷ 6 ∷ 6 ∷ [] }
-    ∷ record { given = endsAt 9; due = 6 ∷ 0 ∷ 0 ∷ 6 ∷ 6 ∷ 0 ∷ 0 ∷ 6 ∷ 6 ∷ 6 ∷ [] }
-    ∷ record { given = endsAt 10; due = 6 ∷ 0 ∷ 0 ∷ 6 ∷ 6 ∷ 0 ∷ 0 ∷ 6 ∷ 6 ∷ 6 ∷ [] }
-    ∷ record { given = endsAt 11; due = 6 ∷ 0 ∷ 0 ∷ 6 ∷ 6 ∷ 0 ∷ 0 ∷ 6 ∷ 6 ∷ 6 ∷ [] }
+    ∷ record { given = endsAt 6; due = 6 ∷ 0 ∷ 0 ∷ 6 ∷ 6 ∷ 0 ∷ 0 ∷ 6 ∷ 6 ∷ 6 ∷ 6 ∷ 6 ∷ [] }
+    ∷ record { given = endsAt 7; due = 6 ∷ 0 ∷ 0 ∷ 6 ∷ 6 ∷ 0 ∷ 0 ∷ 6 ∷ 6 ∷ 6 ∷ 6 ∷ 6 ∷ [] }
+    ∷ record { given = endsAt 8; due = 6 ∷ 0 ∷ 0 ∷ 6 ∷ 6 ∷ 0 ∷ 0 ∷ 6 ∷ 6 ∷ 6 ∷ 6 ∷ 6 ∷ [] }
+    ∷ record { given = endsAt 9; due = 6 ∷ 0 ∷ 0 ∷ 6 ∷ 6 ∷ 0 ∷ 0 ∷ 6 ∷ 6 ∷ 6 ∷ 6 ∷ 6 ∷ [] }
+    ∷ record { given = endsAt 10; due = 6 ∷ 0 ∷ 0 ∷ 6 ∷ 6 ∷ 0 ∷ 0 ∷ 6 ∷ 6 ∷ 6 ∷ 6 ∷ 6 ∷ [] }
+    ∷ record { given = endsAt 11; due = 6 ∷ 0 ∷ 0 ∷ 6 ∷ 6 ∷ 0 ∷ 0 ∷ 6 ∷ 6 ∷ 6 ∷ 6 ∷ 6 ∷ [] }
     -- set-up values at their ends: weight 0, 1, 100,000, 100,001
     ∷ record { given = begins ident A 0 0 0 full ∷ begins ident A 1 0 0 full ∷ begins ident A 100000 0 0 full ∷ begins ident A 100001 0 0 full ∷ []; due = 6 ∷ 0 ∷ 0 ∷ 6 ∷ [] }
     -- start time: the last second of 2099 and the next
     ∷ record { given = begins ident A 1 3155759999 0 full ∷ begins ident A 1 3155760000 0 full ∷ []; due = 0 ∷ 6 ∷ [] }
     -- start total 999,999,999,999 and 1,000,000,000,000
     ∷ record { given = begins ident A 1 0 999999999999 full ∷ begins ident A 1 0 1000000000000 full ∷ []; due = 0 ∷ 6 ∷ [] }
-    -- a small letter in the identifier; no real class, with the store of no days
+    -- a small letter as M; no real class, with the store of no days
     ∷ record { given = begins small A 1 0 0 full ∷ begins ident Blank 1 0 0 (lent 0 0 0) ∷ []; due = 6 ∷ 6 ∷ [] }
     -- set-up, 6 before 4: each of these with a store of another length; and with that alone
     ∷ record {
@@ -291,7 +323,7 @@ cases =
           ∷ begins ident A 1 3155760000 0 short ∷ begins ident A 1 0 1000000000000 short ∷ begins ident A 1 0 0 short ∷ [];
       due = 6 ∷ 6 ∷ 6 ∷ 6 ∷ 6 ∷ 6 ∷ 4 ∷ [];
     }
-    -- a recorder's fields at the ends of their ranges, and past them. A small letter in the identifier; weight 0, 1, 100,000, 100,001
+    -- a recorder's fields at the ends of their ranges, and past them. A small letter as M; weight 0, 1, 100,000, 100,001
     ∷ record { given = named small 1 ∷ named ident 0 ∷ named ident 1 ∷ named ident 100000 ∷ named ident 100001 ∷ []; due = 5 ∷ 5 ∷ 0 ∷ 0 ∷ 5 ∷ [] }
     -- time: the last second of 2099 and the next
     ∷ record { given = timed 3155759999 1 ∷ timed 3155760000 1 ∷ []; due = 0 ∷ 5 ∷ [] }
@@ -314,13 +346,13 @@ cases =
     -- reading at the running half-hour's start 99,999,999 and 100,000,000
     ∷ record { given = based 99999999 ∷ based 100000000 ∷ []; due = 0 ∷ 5 ∷ [] }
     -- each kind of event. No real class, 5 before 4: the blank recorder with a store of class a, of no class, of no days
-    ∷ record { given = answers (record { recorder = blank; store = full }) kinds; due = replicate 9 5 }
-    ∷ record { given = answers (record { recorder = blank; store = short }) kinds; due = replicate 9 5 }
-    ∷ record { given = answers (record { recorder = blank; store = lent 0 0 0 }) kinds; due = replicate 9 5 }
+    ∷ record { given = answers (record { recorder = blank; store = full }) kinds; due = replicate 10 5 }
+    ∷ record { given = answers (record { recorder = blank; store = short }) kinds; due = replicate 10 5 }
+    ∷ record { given = answers (record { recorder = blank; store = lent 0 0 0 }) kinds; due = replicate 10 5 }
     -- 4 before 5: a store of another length, and a field out of range too
-    ∷ record { given = answers (beside (meter 0 0 0 1) short) kinds; due = replicate 9 4 }
-    ∷ record { given = answers (beside (outOfRange (meter 0 0 0 1)) short) kinds; due = replicate 9 4 }
+    ∷ record { given = answers (beside (meter 0 0 0 1) short) kinds; due = replicate 10 4 }
+    ∷ record { given = answers (beside (outOfRange (meter 0 0 0 1)) short) kinds; due = replicate 10 4 }
     -- 5 before 1: a field out of range, while on, where On would be 1, and while off, where any other would
-    ∷ record { given = answers (outOfRange (meter 0 0 0 1)) kinds; due = replicate 9 5 }
-    ∷ record { given = answers (outOfRange (next (meter 0 0 0 1) Off)) kinds; due = replicate 9 5 }
+    ∷ record { given = answers (outOfRange (meter 0 0 0 1)) kinds; due = replicate 10 5 }
+    ∷ record { given = answers (outOfRange (next (meter 0 0 0 1) Off)) kinds; due = replicate 10 5 }
     ∷ []

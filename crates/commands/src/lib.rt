@@ -24,7 +24,7 @@ pub const BLOCK: u64 = 5;
 
 pub const LEDGER: u64 = 6;
 
-// ---- what its first number is: the number in a word, the day, the time, a name; behind an identifier a day, or all that a set-up has
+// ---- what its first number is: the number in a word, the day, the time, a name; behind an identifier a day, or all that a set-up has; PPP, as a name
 
 const NUMBER: u64 = 0;
 
@@ -37,6 +37,8 @@ const NAME: u64 = 3;
 const ID_DAY: u64 = 4;
 
 const SET_UP: u64 = 5;
+
+const PPP: u64 = 6;
 
 // ---- limits
 
@@ -71,6 +73,7 @@ fn named(name: u64) -> Command {
         names::OFF | names::ACCESS | names::RESET | names::REVERSE => {
             Command(METER, 0, 0, NUMBER, ANY, ANY, ANY)
         }
+        names::PPP => Command(METER, 1, 1, PPP, ANY, ANY, ANY),
         names::DAY => Command(DAY_SHOWN, 1, 1, DAY, SMALL, ANY, ANY),
         names::LEND => Command(METER, 0, 3, NUMBER, VALUES, STARTS, MARKS),
         names::POKE => Command(METER, 2, 3, NAME, ANY, LARGE, LARGE),
@@ -114,7 +117,7 @@ fn first(what: u64, line: &[u8], n: usize) -> u64 {
     match what {
         DAY => script::day_at(line, 1),
         TIME => script::time_at(line, 1, n),
-        NAME => script::name_at(line, 1),
+        NAME | PPP => script::name_at(line, 1),
         ID_DAY => script::day_at(line, 2),
         _ => words::argument(line, 1, n),
     }
@@ -164,9 +167,13 @@ fn read_as(command: Command, name: u64, line: &[u8], n: usize) -> Said {
 
 // ---- what is understood
 
-// Whether a word is an identifier, where there has to be one.
+// Whether a word is as long as an identifier or PPP, where there has to be one.
 fn is_identified(what: u64, word: &[u8]) -> bool {
-    (what < ID_DAY) | (word.len() == format::IDENTIFIER)
+    match what {
+        ID_DAY | SET_UP => word.len() == format::IDENTIFIER,
+        PPP => word.len() == format::PPP,
+        _ => true,
+    }
 }
 
 fn is_within(said: Said, command: Command) -> bool {

@@ -30,7 +30,7 @@ use Rattle.assurance.specs.Written.{addAfter, addAt, markAt, markFrom, unitsWit
 use Rattle.assurance.specs.Meaning.{countedBefore}
 use Rattle.assurance.specs.Delivered.{Drawn, Holds, DayHeld, HalfTold, heldOn, past, counted}
 use Rattle.assurance.proofs.Demands.{demand-3}
-use Rattle.example.specs.Example.{meter, lent, calls, block, late, ledger, held, IsDay, Worked}
+use Rattle.example.specs.Example.{identifier, meter, lent, calls, block, late, ledger, held, IsDay, Worked}
 use Rattle.example.proofs.Computed as computed
 
 -- ---- the blocks delivered are the run's
@@ -50,8 +50,8 @@ drawn b i =
     let sent = blocksIn (setUp meter lent .after) calls in
     either (λ c. List·Memᴰ c sent) b i (member-at sent 2 [] (omega (arith, three))) (member-at sent 0 [] (omega (arith, three)))
 
-pub holds : Holds meter lent calls ledger 0 3 late
-holds = demand-3 meter lent calls ledger 0 3 late computed.begins computed.well drawn
+pub holds : Holds meter lent calls ledger identifier 0 3 late
+holds = demand-3 meter lent calls ledger identifier 0 3 late computed.begins (λ q past h. refl) computed.well drawn
 
 -- ---- what they tell: of the three days what had ended at 00:10 on the third
 
@@ -70,7 +70,7 @@ carries-2 d l = rw (time-2, days-2) (omega arith, omega arith)
 earlier : (d : ℕ) → endedOn 4200 d ≤ endedOn 173400 d
 earlier d = omega (arith, ended-formula 4200 d, ended-formula 173400 d)
 
-told-is : (d : ℕ) → d ≤ 2 → (j : ℕ) → HalfTold meter lent calls ledger 0 3 late d j ↔ (j < endedOn 173400 d)
+told-is : (d : ℕ) → d ≤ 2 → (j : ℕ) → HalfTold meter lent calls ledger identifier 0 3 late d j ↔ (j < endedOn 173400 d)
 told-is d l j = (
   λ t. either (λ b. j < endedOn (viewOf b .time) d → j < endedOn 173400 d) (t .0) (t .1)
       (λ m. rw time-2 at m)
@@ -82,7 +82,7 @@ told-is d l j = (
 -- ---- the days
 
 module _ (d k : ℕ) (l : d ≤ 2) (e : endedOn 173400 d ≡ k) (z : 0 + d ≡ d) where
-  day : DayHeld meter lent calls ledger 0 3 late d (heldOn held d) (missingOf held d)
+  day : DayHeld meter lent calls ledger identifier 0 3 late d (heldOn held d) (missingOf held d)
   day = rw z at (holds .day d (omega arith))
 
   half-hours : count (heldOn held d) ≡ k
@@ -142,7 +142,7 @@ missing-2 : missingOf held 2 ≡ record { answer = 0; first = 0; count = 48 }
 missing-2 =
     let t = day 2 0 (omega arith) none refl in
     let m = missingOf held 2 in
-    let untold : (j : ℕ) → HalfTold meter lent calls ledger 0 3 late 2 j → ⊥ = λ j q. let no : j < 0 = rw none at (told-is 2 (omega arith) j .0 q) in omega arith in
+    let untold : (j : ℕ) → HalfTold meter lent calls ledger identifier 0 3 late 2 j → ⊥ = λ j q. let no : j < 0 = rw none at (told-is 2 (omega arith) j .0 q) in omega arith in
     let low : (m .first ≤ 0) × (0 < m .first + m .count) = t .lack 0 .1 (omega arith, untold 0) in
     let high : (m .first ≤ 47) × (47 < m .first + m .count) = t .lack 47 .1 (omega arith, untold 47) in
     let first : m .first ≡ 0 = omega arith in

@@ -60,11 +60,11 @@ abbrev pub ledger : List ℕ
 ledger = replicate 358 0
 
 abbrev pub held : List ℕ
-held = filed meter lent calls ledger 0 3 late
+held = filed meter lent calls ledger identifier 0 3 late
 
 -- what is newly held by each of some blocks, in a ledger of the first day alone
 abbrev pub newlyBy : List (List ℕ) → List ℕ
-newlyBy bs = map (λ (a : Answer). a .carried) (answersAll (opened meter lent calls (replicate 130 0) 0 1 bs) bs)
+newlyBy bs = map (λ (a : Answer). a .carried) (answersAll (opened meter lent calls (replicate 130 0) identifier 0 1 bs) bs)
 
 -- day d is held with so many half-hours, this start and these flags; and the value of half-hour j
 pub record IsDay (d k start flags : ℕ) : Type 0 where
@@ -86,7 +86,7 @@ pub record Worked : Type 0 where
   pub in-order : newlyBy (block 0 ∷ block 1 ∷ []) ≡ 2 ∷ 2 ∷ []
   pub swapped : newlyBy (block 1 ∷ block 0 ∷ []) ≡ 4 ∷ 0 ∷ []
   -- the third block, and then the late one: two days are whole, with their flags; of the third only the start is known, and all of it is missing
-  pub newly : carriedAll (answersAll (opened meter lent calls ledger 0 3 late) late) ≡ 96
+  pub newly : carriedAll (answersAll (opened meter lent calls ledger identifier 0 3 late) late) ≡ 96
   pub first : IsDay 0 48 0 128
   pub second : IsDay 1 48 120 128
   pub third : IsDay 2 0 120 0

@@ -1,6 +1,6 @@
 -- From opening on: whatever honest blocks are filed in a ledger that `open` opened, it holds exactly what they told.
 -- Assumes nothing.
-use mathlib.Core.Path.{_≡_, refl, sym, _∙_}
+use mathlib.Core.Path.{_≡_, refl, sym, ap, _∙_}
 use mathlib.Core.Logic.{_↔_}
 use mathlib.Core.Bool.{true}
 use mathlib.Core.List.{List, [], _∷_, List·Memᴰ}
@@ -8,11 +8,13 @@ use Prim.Native.Nat.{ℕ}
 use lib.ListN.{length}
 use borrow.Author.Tests.{eq-eqb}
 use Rattle.days.specs.Day.{History}
-use Rattle.days.specs.Desk.{Desk, Laws, run, fresh, dayIn}
+use Rattle.days.specs.Desk.{Filed, Desk, Laws, run, fresh, dayIn}
 use Rattle.days.specs.Told.{AllHonest, Kept}
 use Rattle.days.specs.Energy.{Steady, Metered, Unbroken, Close}
+use Rattle.days.proofs.Fold.{reaches, cuts, run-fresh}
 use Rattle.days.proofs.Stretch.{energy-kept}
-use Rattle.ledger.specs.Layout.{lengthOf}
+use Rattle.ledger.specs.Layout.{lengthOf, daysOf}
+use Rattle.ledger.specs.Rooms.{pack}
 use Rattle.ledger.specs.Open.{headOf, openOk, openChecks, openAnswer, openOf}
 use Rattle.ledger.proofs.Opening.{Opens, opens-of, days-written, first-written, head-good, count-good}
 use Rattle.filing.specs.File.{fileOf}
@@ -51,6 +53,14 @@ module _ (id : List ℕ) (first days : ℕ) (ok : openOk id first days ≡ true)
   unfolding run fileAll filedAs
   run-bytes l [] = refl
   run-bytes l (b ∷ bs) = run-bytes (fileOf l b .ledger) bs
+
+  -- the bytes: the history cut at the furthest that any of the blocks reaches
+  pub opened-packed : (l : List ℕ) → length l ≡ lengthOf days → (h : History) (bs : List (List ℕ)) → AllHonest (desk (headOf id first days)) h bs
+      → fileAll (openOf l id first days .ledger) bs ≡ pack (headOf id first days) (daysOf (headOf id first days)) (cuts here opened-laws h (reaches here opened-laws h bs))
+  opened-packed l hl h bs hs =
+      ap (λ (m : List ℕ). fileAll m bs) (opened-fresh l hl)
+      ∙ sym (run-bytes (fresh here) bs)
+      ∙ ap (λ (r : Filed (List ℕ)). r .ledger) (run-fresh here opened-laws h bs hs)
 
   -- the same blocks in whatever order, however often each: the same bytes
   pub any-order : (l m : List ℕ) → length l ≡ lengthOf days → length m ≡ lengthOf days → (h : History) (bs cs : List (List ℕ))

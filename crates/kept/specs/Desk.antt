@@ -1,5 +1,5 @@
 -- The ledger in bytes as a desk of the theory of deliveries (demand 3): its blocks are rows of bytes, and it takes those that the reader takes and whose
--- identifier is its own. Filing one is `fileOf`, which the contract of `file` cites.
+-- meter is its own. Filing one is `fileOf`, which the contract of `file` cites.
 use mathlib.Core.Bool.{Bool, _&&_, cond}
 use mathlib.Core.List.{List, [], _∷_}
 use Prim.Native.Nat.{ℕ}

@@ -81,6 +81,15 @@ fn begin(
     set_up(memory::lent_store(row), row, values, starts, marks)
 }
 
+// PPP as the number of its bytes.
+fn ppp(n: u64) -> Event {
+    Event::Ppp(
+        (n / 65536 % 256) as u8,
+        (n / 256 % 256) as u8,
+        (n % 256) as u8,
+    )
+}
+
 fn event(name: u64, n: u64) -> Event {
     match name {
         names::COUNT => Event::Count(memory::narrow(n)),
@@ -91,6 +100,7 @@ fn event(name: u64, n: u64) -> Event {
         names::METER => Event::Meter(memory::narrow(n)),
         names::RESET => Event::Reset,
         names::RATE => Event::Rate(memory::narrow(n)),
+        names::PPP => ppp(n),
         _ => Event::Reverse,
     }
 }

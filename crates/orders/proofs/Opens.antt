@@ -13,7 +13,7 @@ use Rattle.days.specs.Day.{flagsHeld}
 use Rattle.days.specs.View.{carries, offer, offered}
 use Rattle.filing.specs.File.{agreeAt, agrees, dayAfter, fileAnswer, fileChecks, fileOf, heldOf, identAt, ledgerAfter, newlyHeld, readOf as filing-readOf, refusal, sameMeter}
 use Rattle.format.specs.Fields.{firstBad, okValues, render, times, valuesAt}
-use Rattle.format.specs.Identifier.{identByte, identOk, identTest}
+use Rattle.format.specs.Identifier.{freeByte, identByte, identOk, identTest}
 use Rattle.format.specs.Numbers.{digitAt, digitTest, digitsIn, goodAt, isDigit, numAt}
 use Rattle.judgement.specs.Days.{dayAt as judgement-dayAt, valueSent, wordSent}
 use Rattle.judgement.specs.Given.{dayFits, dayGiven, daysFit, daysGiven, filled as judgement-filled, given, headFits, joined, repeated, valueFits, writable}
@@ -43,7 +43,7 @@ use Rattle.store.specs.Store.{closed, flagAt, flagged, opened, passed, pushAt, 
 use Rattle.writer.specs.Send.{sendOf}
 
 unfoldable pub opens-under : Unit {0}
-unfolding dateOf dayNumber dayOf inMonth inYear leapDay monthLength months place realDate yearLength endedOn realClock realStamp secondNumber secondOf stampOf dayOn realDay realTime secondsOn timeDigits firstBad okValues render times valuesAt identByte identOk identTest digitAt digitTest digitsIn goodAt isDigit numAt bitAt packBits each table allBelow sumBelow endedPart marksSent taken advanceAt beforeAt endReading summedAdvance valuesFrom
+unfolding dateOf dayNumber dayOf inMonth inYear leapDay monthLength months place realDate yearLength endedOn realClock realStamp secondNumber secondOf stampOf dayOn realDay realTime secondsOn timeDigits firstBad okValues render times valuesAt freeByte identByte identOk identTest digitAt digitTest digitsIn goodAt isDigit numAt bitAt packBits each table allBelow sumBelow endedPart marksSent taken advanceAt beforeAt endReading summedAdvance valuesFrom
 opens-under = tt
 
 unfoldable pub opens-block : Unit {0}

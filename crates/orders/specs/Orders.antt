@@ -82,9 +82,12 @@ byteAt offset byte b = set b offset byte
 abbrev pub colonAt : ℕ → List ℕ → List ℕ
 colonAt offset b = byteAt offset 58 b
 
--- another meter: XBCX24000017
+-- another meter: ABCX24000018; and at each place another character than ABCX24000017 has, which may stand there: a in PPP, Y as M, 9 in YY, Z in XXXXXX
 abbrev pub other : List ℕ
-other = set ident 0 88
+other = set ident 11 56
+
+abbrev pub unlike : ℕ → ℕ → List ℕ
+unlike place character = set ident place character
 
 abbrev pub parses : List ℕ → Answer
 parses b = answerOf (parse b)
@@ -173,6 +176,11 @@ parsing =
     ∷ record { given = told (parses (colonAt 40 (colonAt 30 (bare ident 0))) ∷ parses (colonAt 318 (byteAt 126 1 (oneDay ident 0 7))) ∷ []); due = 9 ∷ 29 ∷ 9 ∷ 126 ∷ [] }
     -- 9 before 10, a reset count without a date each time: a colon in the number of days; in a day's last value
     ∷ record { given = told (parses (colonAt 111 (bare ident 1)) ∷ parses (colonAt 318 (oneDay ident 1 7)) ∷ []); due = 9 ∷ 109 ∷ 9 ∷ 315 ∷ [] }
+    -- small letters in PPP, done; as M and in XXXXXX, 9 at the identifier
+    ∷ record {
+      given = told (parses (bare (unlike 0 97) 0) ∷ parses (bare (unlike 2 122) 0) ∷ parses (bare small 0) ∷ parses (bare (unlike 11 97) 0) ∷ []);
+      due = 0 ∷ 0 ∷ 0 ∷ 0 ∷ 9 ∷ 5 ∷ 9 ∷ 5 ∷ [];
+    }
     -- 10: that alone; 8 before 10: and version 2
     ∷ record { given = told (parses (bare ident 1) ∷ parses (byteAt 4 2 (bare ident 1)) ∷ []); due = 10 ∷ 0 ∷ 8 ∷ 0 ∷ [] }
     ∷ []
@@ -182,7 +190,9 @@ abbrev pub opening : List Case
 opening =
     -- done: the first day, the last; 4: a byte too few, a byte too many, the room of one for 451 days
     record { given = opens 130 ident 0 1 ∷ opens 130 ident 36524 1 ∷ opens 129 ident 0 1 ∷ opens 131 ident 0 1 ∷ opens 130 ident 0 451 ∷ []; due = 0 ∷ 0 ∷ 4 ∷ 4 ∷ 4 ∷ [] }
-    -- 6: a small letter; past 2099; two days, of which the second is
+    -- done: small letters in PPP; 6: a hyphen in it
+    ∷ record { given = opens 130 (unlike 0 97) 0 1 ∷ opens 130 (unlike 2 122) 0 1 ∷ opens 130 (unlike 1 45) 0 1 ∷ []; due = 0 ∷ 0 ∷ 6 ∷ [] }
+    -- 6: a small letter as M; past 2099; two days, of which the second is
     ∷ record { given = opens 130 small 0 1 ∷ opens 130 ident 36525 1 ∷ opens 244 ident 36524 2 ∷ []; due = 6 ∷ 6 ∷ 6 ∷ [] }
     -- 451 days with the room of one: to the last day of 2099, 4; to the next, 6
     ∷ record { given = opens 130 ident 36074 451 ∷ opens 130 ident 36075 451 ∷ []; due = 4 ∷ 6 ∷ [] }
@@ -199,6 +209,33 @@ abbrev pub filing : List Case
 filing =
     -- done: a block of no day
     record { given = told (files (ledger 1 absentRoom) (bare ident 0) ∷ []); due = 0 ∷ 0 ∷ [] }
+    -- a block that differs from the ledger at one character: of PPP, done; of M, YY and XXXXXX, 11
+    ∷ record {
+      given = told
+          (files (ledger 1 absentRoom) (bare (unlike 0 97) 0)
+          ∷ files (ledger 1 absentRoom) (bare (unlike 1 97) 0)
+          ∷ files (ledger 1 absentRoom) (bare (unlike 2 97) 0)
+          ∷ []);
+      due = replicate 6 0;
+    }
+    ∷ record {
+      given = told
+          (files (ledger 1 absentRoom) (bare (unlike 3 89) 0)
+          ∷ files (ledger 1 absentRoom) (bare (unlike 4 57) 0)
+          ∷ files (ledger 1 absentRoom) (bare (unlike 5 57) 0)
+          ∷ files (ledger 1 absentRoom) (bare (unlike 6 90) 0)
+          ∷ files (ledger 1 absentRoom) (bare (unlike 7 90) 0)
+          ∷ files (ledger 1 absentRoom) (bare (unlike 8 90) 0)
+          ∷ files (ledger 1 absentRoom) (bare (unlike 9 90) 0)
+          ∷ files (ledger 1 absentRoom) (bare (unlike 10 90) 0)
+          ∷ files (ledger 1 absentRoom) (bare (unlike 11 90) 0)
+          ∷ []);
+      due = 11 ∷ 0 ∷ 11 ∷ 0 ∷ 11 ∷ 0 ∷ 11 ∷ 0 ∷ 11 ∷ 0 ∷ 11 ∷ 0 ∷ 11 ∷ 0 ∷ 11 ∷ 0 ∷ 11 ∷ 0 ∷ [];
+    }
+    -- the ledger's own PPP: a small letter, done; a hyphen, 5
+    ∷ record { given = told (files (byteAt 0 97 (ledger 1 absentRoom)) (bare ident 0) ∷ files (byteAt 0 45 (ledger 1 absentRoom)) (bare ident 0) ∷ []); due = 0 ∷ 0 ∷ 5 ∷ 0 ∷ [] }
+    -- 9 before 11: a small letter as M, in a block of no other meter's and in another's
+    ∷ record { given = told (files (ledger 1 absentRoom) (bare small 0) ∷ files (ledger 1 absentRoom) (bare (set small 11 56) 0) ∷ []); due = 9 ∷ 5 ∷ 9 ∷ 5 ∷ [] }
     -- under 16 bytes, 4 before 5 and 8: no byte; the day count cut, so that it reads as 0; no block either time
     ∷ record { given = told (files [] [] ∷ files (take 15 (ledger 1 [])) [] ∷ []); due = 4 ∷ 0 ∷ 4 ∷ 0 ∷ [] }
     -- a day count that isn't 1 to 451, 5 before 4 and 8: 0 and 452 days with the room of one; no block

@@ -118,6 +118,14 @@ went t x g l =
     ap (λ (y : Mem). with y (withClock (record { time = t; on = true; days = y .recorder .clock .days }) (y .recorder))) (all-closed (t / secondsOfHalf) x (g .good .days) l)
     ∙ rw d
 
+-- the identity stays
+pub same-identity : (t : ℕ) (x : Mem) → Goes t x → advanceTo t x .recorder .identity ≡ x .recorder .identity
+unfolding ended
+same-identity t x g =
+    by-dec (decLt (halfOf (x .recorder)) (t / secondsOfHalf))
+    (λ l. ap (λ (y : Mem). y .recorder .identity) (went t x g l))
+    (λ l. ap (λ (y : Mem). y .recorder .identity) (stayed t x g (let from = g .from in omega arith)))
+
 -- so what is good stays good
 pub gone-good : (t : ℕ) (x : Mem) → Goes t x → Good (advanceTo t x)
 unfolding ended

@@ -19,6 +19,8 @@ use Rattle.laws.proofs.Split.{by-test, by-dec}
 use Rattle.laws.proofs.Tests.{allTrue-each}
 use Rattle.quantity.specs.declared.MilliwattHours.{MilliwattHours}
 use Rattle.quantity.specs.Units.{totalRound, lastFour}
+use Rattle.format.specs.Identifier.{pppOk}
+use Rattle.format.proofs.Naming.{ppp-right}
 use Rattle.registers.specs.declared.Demand.{Demand}
 use Rattle.registers.specs.declared.Energy.{Energy}
 use Rattle.registers.specs.declared.Present.{Present}
@@ -30,9 +32,9 @@ use Rattle.store.specs.Class.{daysOf, dayWords, rightLengths}
 use Rattle.store.specs.Store.{Store, store, Fits, Words}
 use Rattle.store.proofs.Laws.{begun-fits, flag-words, flagged-words, gone-fits}
 use Rattle.recorder.specs.declared.SetUp.{SetUp}
-use Rattle.recorder.specs.Recorder.{Recorder, Mem, Event, Count, Clock, Off, On, Access, Meter, Reset, Rate, Reverse, with, capOf, halfOf, todayOf, readingNow}
+use Rattle.recorder.specs.Recorder.{Recorder, Mem, Event, Count, Clock, Off, On, Access, Meter, Reset, Rate, Reverse, Ppp, with, capOf, halfOf, todayOf, readingNow}
 use Rattle.recorder.specs.Boundary.{ended, advanceTo, storeAt}
-use Rattle.recorder.specs.Effect.{powerLost, meterChanged, demandCleared, counted, lastIs, rateIs, switchedOff, wasReset, accessed, reversed, firstFlagged, flagToday, flagFrom, after}
+use Rattle.recorder.specs.Effect.{powerLost, meterChanged, demandCleared, counted, lastIs, rateIs, pppIs, switchedOff, wasReset, accessed, reversed, firstFlagged, flagToday, flagFrom, after}
 use Rattle.recorder.specs.Answer.{checks, eventAnswer, unitsAfter, answerWith, answerOf}
 use Rattle.recorder.specs.Step.{step, run}
 use Rattle.recorder.specs.SetUp.{setUpTests, setUpChecks, setUpAnswer, setUpWith, started, fresh, blank, made, setUp}
@@ -203,6 +205,20 @@ after-sound x Reverse a = let s = accepted-sound x Reverse a in changed x (rever
   where
     marked : Ranges (x .recorder) → Ranges (reversed (x .recorder))
     marked g = record { identity = g .identity; clock = g .clock; energy = g .energy; demand = g .demand; base = g .base }
+after-sound x (Ppp a b c) ok =
+    let s = accepted-sound x (Ppp a b c) ok in
+    let none = answered (x .recorder) (Ppp a b c) (length (x .store .values)) (length (x .store .starts)) (length (x .store .marks)) (given-answer x (Ppp a b c) ok) in
+    changed x (accessed (pppIs a b c (x .recorder))) refl (renamed (not-false (pppOk a b c) (none .1 .1 .1 .1 .0)) (s .ranges)) s
+  where
+    renamed : pppOk a b c ≡ true → Ranges (x .recorder) → Ranges (accessed (pppIs a b c (x .recorder)))
+    renamed e g =
+        record {
+          identity = record { identifier = ppp-right a b c (x .recorder .identity .identifier) e (g .identity .identifier); low = g .identity .low; high = g .identity .high };
+          clock = g .clock;
+          energy = g .energy;
+          demand = g .demand;
+          base = g .base;
+        }
 
 pub step-sound : (x : Mem) (e : Event) → Sound x → Sound (step x e .after)
 unfolding step

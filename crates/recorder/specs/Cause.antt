@@ -2,10 +2,11 @@
 use Prim.Native.Nat.{ℕ, _-_}
 use mathlib.Core.Bool.{Bool, true, false, not, cond, _&&_}
 use lib.Dec.{ltb, leb}
+use Rattle.format.specs.Identifier.{pppOk}
 use Rattle.quantity.specs.Units.{valueRound}
 use Rattle.registers.specs.Energy.{rateOk}
 use Rattle.calendar.specs.Clock.{timesInAll}
-use Rattle.recorder.specs.Recorder.{Event, Count, Clock, Off, On, Access, Meter, Reset, Rate, Reverse}
+use Rattle.recorder.specs.Recorder.{Event, Count, Clock, Off, On, Access, Meter, Reset, Rate, Reverse, Ppp}
 
 -- 1: On while on, any other event while off
 abbrev pub isOn : Event → Bool
@@ -18,21 +19,23 @@ isOn (Meter c) = false
 isOn Reset = false
 isOn (Rate n) = false
 isOn Reverse = false
+isOn (Ppp a b c) = false
 
 unfoldable pub wrongPower : Bool → Event → Bool
 wrongPower on e = cond (isOn e) on (not on)
 
--- 6: a rate that is none of 1 to 8
-abbrev pub badRate : Event → Bool
-badRate (Count c) = false
-badRate (Clock t) = false
-badRate Off = false
-badRate (On t) = false
-badRate Access = false
-badRate (Meter c) = false
-badRate Reset = false
-badRate (Rate n) = not (rateOk n)
-badRate Reverse = false
+-- 6: a rate that is none of 1 to 8, a PPP with a wrong character
+abbrev pub badValue : Event → Bool
+badValue (Count c) = false
+badValue (Clock t) = false
+badValue Off = false
+badValue (On t) = false
+badValue Access = false
+badValue (Meter c) = false
+badValue Reset = false
+badValue (Rate n) = not (rateOk n)
+badValue Reverse = false
+badValue (Ppp a b c) = not (pppOk a b c)
 
 -- 2: a time before the present one or past 2099
 abbrev pub inTime : ℕ → ℕ → Bool
@@ -48,6 +51,7 @@ badTime now (Meter c) = false
 badTime now Reset = false
 badTime now (Rate n) = false
 badTime now Reverse = false
+badTime now (Ppp a b c) = false
 
 -- 3: the running half-hour's units would pass 9,999
 abbrev pub mostUnits : ℕ
@@ -63,3 +67,4 @@ tooMuch units (Meter c) = false
 tooMuch units Reset = false
 tooMuch units (Rate n) = false
 tooMuch units Reverse = false
+tooMuch units (Ppp a b c) = false

@@ -1,10 +1,12 @@
 -- What an accepted event does (docs/RULES.md, "Events", the table, in its order).
 use Prim.Native.Nat.{ℕ, _+_, _-_, max}
 use mathlib.Core.Bool.{true, false}
+use mathlib.Core.List.{[], _∷_}
+use Rattle.format.specs.Identifier.{withPpp}
 use Rattle.registers.specs.Demand.{demandReset}
 use Rattle.registers.specs.Energy.{energyCounted, energyLast, energyRate}
 use Rattle.store.specs.Store.{store, flagAt, flagged}
-use Rattle.recorder.specs.Recorder.{Recorder, Mem, Event, Count, Clock, Off, On, Access, Meter, Reset, Rate, Reverse, with, capOf, todayOf, withClock, withEnergy, withDemand, withRunning}
+use Rattle.recorder.specs.Recorder.{Recorder, Mem, Event, Count, Clock, Off, On, Access, Meter, Reset, Rate, Reverse, Ppp, with, capOf, todayOf, withIdentity, withClock, withEnergy, withDemand, withRunning}
 use Rattle.recorder.specs.Boundary.{advanceTo}
 
 -- daily flags
@@ -31,6 +33,11 @@ switchedOff r = withClock (record { time = r .clock .time; on = false; days = r 
 
 abbrev pub wasReset : Recorder → Recorder
 wasReset r = withDemand (demandReset (todayOf r) (r .demand)) r
+
+-- PPP becomes these three
+abbrev pub pppIs : ℕ → ℕ → ℕ → Recorder → Recorder
+pppIs a b c r =
+    withIdentity (record { identifier = withPpp (a ∷ b ∷ c ∷ []) (r .identity .identifier); class = r .identity .class; weight = r .identity .weight }) r
 
 -- the running half-hour is marked: Level 2 access, reverse running
 abbrev pub accessed : Recorder → Recorder
@@ -77,3 +84,4 @@ after x (Meter c) = metered c x
 after x Reset = cleared x
 after x (Rate n) = with x (rateIs n (x .recorder))
 after x Reverse = with x (reversed (x .recorder))
+after x (Ppp a b c) = with x (accessed (pppIs a b c (x .recorder)))

@@ -10,7 +10,7 @@ use Rattle.store.specs.Store.{Store, Fits, Words}
 use Rattle.recorder.specs.declared.SetUp.{SetUp}
 use Rattle.recorder.specs.declared.step.Told.{Told}
 use Rattle.recorder.specs.declared.step.Told.the-variants.{Is, Not}
-use Rattle.recorder.specs.Recorder.{Recorder, Mem, Event, Count, Clock, Off, On, Access, Meter, Reset, Rate, Reverse, capOf}
+use Rattle.recorder.specs.Recorder.{Recorder, Mem, Event, Count, Clock, Off, On, Access, Meter, Reset, Rate, Reverse, Ppp, capOf}
 use Rattle.recorder.specs.Boundary.{advanceTo}
 use Rattle.recorder.specs.Effect.{turnedOn}
 
@@ -47,6 +47,7 @@ timeIn (Meter c) = Not
 timeIn Reset = Not
 timeIn (Rate n) = Not
 timeIn Reverse = Not
+timeIn (Ppp a b c) = Not
 
 abbrev pub told : ℕ → Mem → Mem
 told t x = cond (x .recorder .clock .on) (advanceTo t x) (turnedOn t x)

@@ -13,7 +13,7 @@ use Rattle.store.specs.Store.{Store, store}
 pub use Rattle.recorder.specs.declared.Identity.{Identity}
 pub use Rattle.recorder.specs.declared.Recorder.{Recorder}
 pub use Rattle.recorder.specs.declared.Event.{Event}
-pub use Rattle.recorder.specs.declared.Event.the-variants.{Count, Clock, Off, On, Access, Meter, Reset, Rate, Reverse}
+pub use Rattle.recorder.specs.declared.Event.the-variants.{Count, Clock, Off, On, Access, Meter, Reset, Rate, Reverse, Ppp}
 
 pub record Mem : Type 0 where
   pub recorder : Recorder
@@ -39,6 +39,9 @@ abbrev pub readingNow : Recorder → RegisterUnits
 readingNow r = readingOf (r .energy .total)
 
 -- the recorder with one group replaced
+abbrev pub withIdentity : Identity → Recorder → Recorder
+withIdentity i r = record { identity = i; clock = r .clock; energy = r .energy; demand = r .demand; running = r .running }
+
 abbrev pub withClock : Present → Recorder → Recorder
 withClock c r = record { identity = r .identity; clock = c; energy = r .energy; demand = r .demand; running = r .running }
 

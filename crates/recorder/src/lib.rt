@@ -42,6 +42,7 @@ pub enum Event {
     Reset,
     Rate(u32),
     Reverse,
+    Ppp(u8, u8, u8),
 }
 
 // What set-up, an event and a read hand back.

@@ -3,11 +3,12 @@ ghost use mathlib.Core.Path.{_≡_};
 ghost use mathlib.Core.Bool.{not, cond};
 ghost use Prim.Native.Nat.{max, _+_, _-_};
 ghost use lib.Dec.{ltb};
+ghost use Rattle.format.specs.Identifier.{pppOk};
 ghost use Rattle.registers.specs.Energy.{Countable, rateOk};
 ghost use Rattle.store.specs.Store.{store, flagAt, flagged};
 ghost use Rattle.recorder.specs.Recorder.{mem, capOf, todayOf, withClock};
 ghost use Rattle.recorder.specs.Boundary.{ended, storeAt, advanceTo};
-ghost use Rattle.recorder.specs.Effect.{counted, lastIs, rateIs, wasReset, switchedOff, accessed, reversed, firstFlagged, after};
+ghost use Rattle.recorder.specs.Effect.{counted, lastIs, rateIs, pppIs, wasReset, switchedOff, accessed, reversed, firstFlagged, after};
 ghost use Rattle.recorder.specs.declared.step.Told.the-variants.{Not};
 ghost use Rattle.recorder.specs.Answer.{inTime, mostUnits, unitsAfter, eventAnswer, answerWith, answerOf};
 ghost use Rattle.recorder.specs.Step.{done, step};
@@ -45,7 +46,7 @@ fn first_of(fails: bool, number: u32, next: u32) -> u32
     if fails { number } else { next }
 }
 
-// The answers that power, a time and a rate give.
+// The answers that power, a time, a rate and a PPP give.
 fn power_answer(wrong: bool) -> u32
     ensures { λ r. ⌜ r ≡ cond wrong 1 0 ⌝ }
 {
@@ -76,6 +77,16 @@ fn rate_answer(wrong: bool, n: u32) -> u32
     )
 }
 
+fn ppp_answer(wrong: bool, a: u8, b: u8, c: u8) -> u32
+    ensures { λ r. ⌜ r ≡ cond wrong 1 (cond (not (pppOk a b c)) 6 0) ⌝ }
+{
+    first_of(
+        wrong,
+        answers::POWER,
+        first_of(!format::ppp_ok(a, b, c), answers::RANGE, answers::DONE),
+    )
+}
+
 // The time that it is, if an event tells it.
 pub enum Told {
     Is(u64),
@@ -96,6 +107,7 @@ impl Event {
             Event::Reset => Told::Not,
             Event::Rate(_) => Told::Not,
             Event::Reverse => Told::Not,
+            Event::Ppp(_, _, _) => Told::Not,
         }
     }
 }
@@ -136,6 +148,7 @@ impl Recorder {
             Event::Reset => power_answer(!on),
             Event::Rate(n) => rate_answer(!on, n),
             Event::Reverse => power_answer(!on),
+            Event::Ppp(a, b, c) => ppp_answer(!on, a, b, c),
         }
     }
 
@@ -206,6 +219,19 @@ impl Recorder {
         ensures { λ r. ⌜ r ≡ reversed self ⌝ }
     {
         self.running.reverse = true;
+        self
+    }
+
+    // PPP becomes these three.
+    fn ppp_is(mut self, a: u8, b: u8, c: u8) -> Recorder
+        ensures { λ r. ⌜ r ≡ accessed (pppIs a b c self) ⌝ }
+    {
+        let mut identity = self.identity;
+        let id = identity.identifier;
+        let named = format::with_ppp(id, a, b, c);
+        identity.identifier = named;
+        self.identity = identity;
+        self.running.level2 = true;
         self
     }
 
@@ -305,14 +331,17 @@ impl Recorder {
         store::flag_days(self.cap(), first, end, flag, marks);
     }
 
-    // Clock(t) and On(t). The one is accepted while power is on, the other while it is off, and its days get a flag.
+    // Clock(t) and On(t). The one is accepted while power is on, the other while it is off, and its days get a flag. The identity, which no time changes, goes
+    // round the call and not through it: so a loop knows where it stays, and need not judge it each time.
     fn told(self, t: u64, values: &mut [u16], starts: &mut [u32], marks: &mut [u64]) -> Recorder
         requires { ⌜ Goes t (mem self (now values) (now starts) (now marks)) ⌝ }
         ensures { λ r. ⌜ mem r (now (values .exit)) (now (starts .exit)) (now (marks .exit))
             ≡ told t (mem self (now (values .entry)) (now (starts .entry)) (now (marks .entry))) ⌝ }
     {
         let clock = self.clock;
-        let next = self.advance_to(t, values, starts, marks);
+        let identity = self.identity;
+        let mut next = self.advance_to(t, values, starts, marks);
+        next.identity = identity;
         if clock.on {
             return next;
         }
@@ -348,6 +377,7 @@ impl Recorder {
             }
             Event::Rate(n) => self.rate_is(n),
             Event::Reverse => self.reversed(),
+            Event::Ppp(a, b, c) => self.ppp_is(a, b, c),
         }
     }
 

@@ -20,6 +20,8 @@ pub const RATE: u64 = 0x72617465;
 
 pub const REVERSE: u64 = 0x72657665727365;
 
+pub const PPP: u64 = 0x707070;
+
 pub const READ: u64 = 0x72656164;
 
 pub const DAY: u64 = 0x646179;

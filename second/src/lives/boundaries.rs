@@ -62,7 +62,7 @@ pub fn instants(seed: u64) -> Script {
             for time in [boundary - 1, boundary, boundary + 1] {
                 let pulses = life.random.below(500);
                 life.pulses(pulses);
-                let mark = *life.random.pick(&["access", "reverse", "reset", "meter 5", "rate 2"]);
+                let mark = *life.random.pick(&["access", "reverse", "reset", "meter 5", "rate 2", "ppp xY9"]);
                 life.say(mark);
                 if life.random.once_in(2) {
                     life.clock(time);
@@ -249,7 +249,7 @@ pub fn rings(seed: u64) -> Script {
         for _ in 0..3 {
             let pulses = life.random.below(3_000);
             life.pulses(pulses);
-            let mark = *life.random.pick(&["access", "reverse", "reset", "#", "#"]);
+            let mark = *life.random.pick(&["access", "reverse", "reset", "ppp Qr0", "#", "#"]);
             life.say(mark);
             let time = life.time() + life.random.below(20_000);
             life.clock(time);

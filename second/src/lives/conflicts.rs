@@ -1,7 +1,7 @@
 //! Blocks that say otherwise than what is held, and outstations that differ in their
-//! starts, their pulses or their identifier, filed in one ledger.
+//! starts, their pulses or their meter, filed in one ledger.
 
-use super::{write_into, Life, Script, IDENTIFIER, LATEST_START, OTHER_IDENTIFIER, UNIT_A_PULSE};
+use super::{write_into, Life, Script, IDENTIFIER, LATEST_START, OTHER_METER, UNIT_A_PULSE};
 use crate::block::{self, AT_IDENTIFIER, DAY_FLAGS, DAY_REVERSE, MARK_BYTES, MOST_BYTES};
 use crate::calendar::{self, HALF_HOURS, SECONDS_PER_DAY, SECONDS_PER_HALF_HOUR};
 use crate::quantities::{READING_MODULUS, THOUSANDTHS_PER_UNIT, TOTAL_MODULUS, VALUE_MODULUS};
@@ -106,18 +106,18 @@ fn other_starts(life: &mut Life) {
     }
 }
 
-/// Two outstations of one identifier, and one of another, filed in one ledger.
+/// Two outstations of one meter, and one of another, filed in one ledger.
 fn other_lives(life: &mut Life) {
     for _ in 0..30 {
         let day = life.random.between(100, LATEST_START);
         let total = life.random.below(TOTAL_MODULUS);
         for kept in [0, 1, 2] {
-            let identifier = if kept == 2 { OTHER_IDENTIFIER } else { IDENTIFIER };
+            let identifier = if kept == 2 { OTHER_METER } else { IDENTIFIER };
             life.say(format!("setup {identifier} b {UNIT_A_PULSE} @{} {total} 0", day * SECONDS_PER_DAY));
             for _ in 0..life.random.between(1, 6) {
                 let pulses = life.random.below(3);
                 life.pulses(pulses);
-                let mark = *life.random.pick(&["access", "#", "#", "#", "#", "reverse"]);
+                let mark = *life.random.pick(&["access", "#", "#", "#", "#", "reverse", "ppp aBc"]);
                 life.say(mark);
                 let time = life.time() + life.random.between(1, 5_000);
                 life.clock(time);

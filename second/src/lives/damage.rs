@@ -1,7 +1,7 @@
 //! Damaged blocks and ledgers: each byte position changed, lengths cut and grown, and
-//! foreign identifiers.
+//! blocks of other meters.
 
-use super::{write_into, Life, Script, IDENTIFIER, MOST_32_BITS, OTHER_IDENTIFIER};
+use super::{write_into, Life, Script, IDENTIFIER, MOST_32_BITS, OTHER_METER};
 use crate::block::{self, AT_NUMBER, AT_RESET, AT_TIME, FRAME_BYTES, LENGTH_BYTES, NUMBER_DIGITS};
 use crate::calendar::{write_date, DATE_DIGITS, DAYS, HALF_HOURS, LAST_DAY, SECONDS_PER_DAY};
 use crate::ledger::{self, AT_DAYS, AT_FIRST, DAY_FLAGS, DAY_REVERSE, DAY_START, DAY_VALUES, VALUE_BYTES};
@@ -233,7 +233,7 @@ pub fn ledgers(seed: u64) -> Script {
     life.say(&opened);
     life.say_all(&wrong_ways);
     life.say_all(&[wrong_field, "file", &format!("cut {FRAME_BYTES}"), "file"]);
-    life.say(format!("open {OTHER_IDENTIFIER} {first} 3"));
+    life.say(format!("open {OTHER_METER} {first} 3"));
     life.say_all(&wrong_ways);
     life.say_all(&["take 0", "file", "ledger"]);
     life.say(&opened);
@@ -247,7 +247,7 @@ pub fn ledgers(seed: u64) -> Script {
         life.say(format!("open {identifier} {first} 3"));
         life.say_all(&["deliver 0", "ledger"]);
     }
-    life.say("poke ledger 0 97");
+    life.say(format!("poke ledger 0 {}", b'-'));
     life.say_all(&["cut 0", "file"]);
     life.summary_and_missing(0);
     life.say(format!("lend ledger {}", ledger::HEADER_BYTES + 4));

@@ -1,5 +1,5 @@
 //! Hostile lives: poked recorders and stores, lengths lent wrong, wrong power, bad
-//! times, rates and asks, outputs too short, the blank recorder.
+//! times, rates, PPPs and asks, outputs too short, the blank recorder.
 
 use super::{letter, plain_events, Life, Script, IDENTIFIER, MOST_32_BITS, UNIT_A_PULSE};
 use crate::block::{
@@ -7,7 +7,6 @@ use crate::block::{
     METER_CHANGED, MOST_BYTES, POWER_LOST, RATES,
 };
 use crate::calendar::{self, DAYS, HALF_HOURS, LAST_TIME, SECONDS_PER_DAY};
-use crate::identifier;
 use crate::quantities::{
     self, DEMAND_MODULUS, LEAST_WEIGHT, MOST_UNITS, MOST_WEIGHT, READING_MODULUS, RESETS_MODULUS, THOUSANDTHS_PER_UNIT,
     TOTAL_MODULUS, VALUE_MODULUS,
@@ -21,7 +20,7 @@ pub fn every_call(life: &mut Life) {
     for event in plain_events(time, last) {
         life.say(event);
     }
-    life.say_all(&["read 1", "read 0", &rate_too_many(), "rate 0", &asked_too_many(), "read 1 0"]);
+    life.say_all(&["read 1", "read 0", &rate_too_many(), "rate 0", "ppp a-c", &asked_too_many(), "read 1 0"]);
 }
 
 fn rate_too_many() -> String {
@@ -37,34 +36,6 @@ pub fn set_ups(seed: u64) -> Script {
     let mut life = Life::new(seed);
     life.say_all(&["show", "read 0", "count 0", "off", "on @0", "day 000101", "block", "check", "listing", "ledger"]);
     every_call(&mut life);
-    let identifiers = [
-        "ABCX24000017",
-        "abcx24000017",
-        "ABC124000017",
-        "ABCXA4000017",
-        "ABCX2B000017",
-        "ABCX24zzzzzz",
-        "000A00000000",
-        "ZZZZ99ZZZZZZ",
-        "AB-X24000017",
-        "@BCX24000017",
-        "[BCX24000017",
-        "/BCX24000017",
-        ":BCX24000017",
-        "ABCX24[00017",
-        "ABCX24@00017",
-        "ABCX240000 1",
-        "ABCX2400001",
-        "ABCX240000177",
-    ];
-    for identifier in identifiers {
-        for class in ["a", "d", "e", "A"] {
-            life.say(format!("setup {identifier} {class} {UNIT_A_PULSE} 240229 110000 0 0"));
-            life.say_all(&["show", "access", "read 0"]);
-        }
-        life.say(format!("open {identifier} 240229 2"));
-        life.say_all(&["summary 240229", "ledger"]);
-    }
     let date_and_seconds = |time| calendar::write_date(calendar::day_of(time)) + " " + &calendar::write_seconds(time);
     let times = [0, LAST_TIME, LAST_TIME + 1, MOST_32_BITS + 1, MOST_NUMBER].map(|time| format!("@{time}"));
     let times: Vec<String> = times.into_iter().chain([LAST_TIME, 0].map(date_and_seconds)).collect();
@@ -161,13 +132,6 @@ pub fn pokes(seed: u64) -> Script {
             poke_and_try(&mut life, &format!("poke register {rate} {value}"));
         }
     }
-    for at in 0..identifier::LENGTH {
-        for byte in [b'A', b'Z', b'0', b'9', b'a', b'@', b'[', b'/', b':', b' ', 0, 255] {
-            life.lived(Class::A, 0);
-            life.say(format!("poke letter {at} {byte}"));
-            life.say_all(&["access", "read 0", "listing"]);
-        }
-    }
     // Two fields at once: a never reset date with a count, a base far from the reading.
     for (reset, resets) in [(0, 1), (0, 0), (DAYS, 0), (1, RESETS_MODULUS - 1), (0, RESETS_MODULUS - 1)] {
         life.lived(Class::A, 1);
@@ -220,7 +184,9 @@ fn poke_and_try(life: &mut Life, poke: &str) {
         life.say(format!("clock @{time}"));
     }
     life.pulses(3);
-    life.say_all(&["show", "reset", "meter 9", "access", "reverse", "rate 4", "show", "off", "off", "read 1"]);
+    life.say_all(&[
+        "show", "reset", "meter 9", "access", "reverse", "rate 4", "ppp b7Y", "show", "off", "off", "read 1",
+    ]);
     life.say(format!("on @{}", times[4] + 90_000));
     life.say_all(&["on @5", "show", "read 3", "listing"]);
     let today = life.today().min(DAYS);
@@ -267,7 +233,7 @@ pub fn stores(seed: u64) -> Script {
         life.say_all(&["check", "listing"]);
         let day = life.today() - back;
         life.day(day);
-        life.say_all(&["access", "reset", "meter 4", "reverse"]);
+        life.say_all(&["access", "reset", "meter 4", "reverse", "ppp c8X"]);
         life.pulses(2);
         if life.random.once_in(2) {
             let time = life.time() + life.random.below(5_000);
@@ -334,7 +300,7 @@ fn power(life: &mut Life) {
             life.say(event);
         }
     }
-    life.say_all(&[&rate_too_many(), "rate 0", &asked_too_many(), "read 1", "read 0 0", "clock @0"]);
+    life.say_all(&[&rate_too_many(), "rate 0", "ppp a-c", &asked_too_many(), "read 1", "read 0 0", "clock @0"]);
     life.say_all(&[&format!("clock @{MOST_NUMBER}"), "count 4000000000", "show"]);
     life.say(format!("on @{}", now - 1));
     life.say(format!("on @{}", LAST_TIME + 1));
@@ -414,7 +380,7 @@ fn outputs(life: &mut Life) {
 
 fn random_call(life: &mut Life) {
     let now = life.time();
-    let call = match life.random.below(16) {
+    let call = match life.random.below(18) {
         0 => "off".to_string(),
         1 | 2 => format!("on @{}", (now + life.random.below(9_000)).saturating_sub(life.random.below(4_000))),
         3 | 4 => format!("clock @{}", (now + life.random.below(9_000)).saturating_sub(life.random.below(4_000))),
@@ -428,6 +394,8 @@ fn random_call(life: &mut Life) {
         12 => format!("read {} {}", life.random.below(4), life.random.below(800)),
         13 => format!("read {}", life.random.below(u64::from(MOST_ASKED) + 101)),
         14 => "listing".to_string(),
+        15 => format!("ppp {}", life.random_ppp()),
+        16 => format!("ppp {}", life.random.pick(&["-bc", "a-c", "ab-", "@A[", "`a{", "/0:"])),
         _ => "show".to_string(),
     };
     life.say(call);

@@ -32,6 +32,8 @@ fn well_formed() -> Vec<String> {
          reset\n\
          rate 3\n\
          reverse\n\
+         ppp Z9z\n\
+         ppp a-c\n\
          read 2\n\
          read 2 {two_days}\n\
          read 0 {MOST_BYTES}\n\
@@ -272,11 +274,7 @@ pub fn garbled(seed: u64) -> Script {
         }
         life.say("show");
     }
-    life.say(b"setup \xff\xfe\x80\x00\x01\x7f\xc3\xa9ABCD a 10000 240229 110000 0 0");
-    life.say(b"open \xff\xfe\x80\x00\x01\x7f\xc3\xa9ABCD 240229 2");
-    life.say(b"\xff\xfe");
-    life.say(b"count \xd9\xa1");
-    life.say(b"show\x00");
+    odd_bytes(&mut life);
     life.say_all(&[
         "setup ABCX24000017 a 10000 240229 110000 0 0",
         &format!("count {}", write_digits(7, MOST_DIGITS)),
@@ -293,6 +291,32 @@ pub fn garbled(seed: u64) -> Script {
         }
     }
     life.finish("garbled lines")
+}
+
+/// Bytes that are no printed character, and PPPs of three bytes, of fewer and of more.
+fn odd_bytes(life: &mut Life) {
+    life.say(b"setup \xff\xfe\x80\x00\x01\x7f\xc3\xa9ABCD a 10000 240229 110000 0 0");
+    life.say(b"open \xff\xfe\x80\x00\x01\x7f\xc3\xa9ABCD 240229 2");
+    life.say(b"\xff\xfe");
+    life.say(b"count \xd9\xa1");
+    life.say(b"show\x00");
+    life.say(format!("setup {IDENTIFIER} a 10000 240229 110000 0 0"));
+    life.say(b"ppp \xff\xfe\x80");
+    life.say(b"ppp ab\xc3\xa9");
+    for line in ["ppp", "ppp ", "ppp a", "ppp ab", "ppp abcd", "ppp a b c", "ppp abc d", "ppp  ab", "ppp abc "] {
+        life.say(line);
+    }
+    life.say_all(&[
+        "ppp ab\t",
+        "ppp abc\t",
+        "ppp ab\r",
+        "ppp abc\r",
+        "ppp\tabc",
+        "Ppp abc",
+        "PPP ABC",
+        "pppabc",
+        "show",
+    ]);
 }
 
 /// One slip of the pen.

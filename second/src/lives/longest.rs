@@ -6,6 +6,7 @@ use super::outages::{begin_anywhere, live, live_until};
 use super::{write_into, Life, Script, IDENTIFIER};
 use crate::block::{self, bytes_for, AT_IDENTIFIER, AT_NUMBER, FLAGS, MARKS_MODULUS, NUMBER_DIGITS};
 use crate::calendar::{DAYS, HALF_HOURS, LAST_DAY};
+use crate::identifier;
 use crate::ledger::{self, AT_DAYS};
 use crate::listing;
 use crate::quantities::{READING_MODULUS, VALUE_MODULUS};
@@ -195,18 +196,19 @@ fn listings(life: &mut Life) {
     }
 }
 
-/// Every kept block at the longest, each with another first letter and another last byte.
+/// Every kept block at the longest, each of another meter by its last letter, and with another last byte.
 fn kept_blocks(life: &mut Life) {
     let letters = || (b'A'..=b'Z').chain(b'0'..=b'9').zip(0..KEPT_BLOCKS);
+    let last = identifier::LENGTH - 1;
     for (letter, kept) in letters() {
         life.say(format!("read {MOST_ASKED}"));
-        life.say(format!("byte {AT_IDENTIFIER} {letter}"));
+        life.say(format!("byte {} {letter}", AT_IDENTIFIER + last));
         life.say(format!("byte {} {}", block::MOST_BYTES - 1, 3 * kept));
         life.say(format!("keep {kept}"));
     }
     for (letter, kept) in letters() {
         life.say(format!("take {kept}"));
-        let identifier = format!("{}{}", char::from(letter), &IDENTIFIER[1..]);
+        let identifier = format!("{}{}", &IDENTIFIER[..last], char::from(letter));
         file_oldest(life, &identifier);
     }
     life.say_all(&["check", "block"]);

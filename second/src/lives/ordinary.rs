@@ -1,7 +1,7 @@
-//! Ordinary lives: weeks of counts, clocks, outages, accesses, resets and reads, and
-//! the ledgers that take their blocks lost, repeated and shuffled.
+//! Ordinary lives: weeks of counts, clocks, outages, accesses, resets, PPPs and reads,
+//! and the ledgers that take their blocks lost, repeated and shuffled.
 
-use super::{write_into, Life, Script, IDENTIFIER, UNIT_A_PULSE};
+use super::{letter, with_ppp, write_into, Life, Script, IDENTIFIER, UNIT_A_PULSE};
 use crate::block::{self, RATES};
 use crate::calendar::{self, SECONDS_PER_DAY, SECONDS_PER_HALF_HOUR};
 use crate::ledger;
@@ -43,7 +43,7 @@ pub fn year(seed: u64) -> Script {
         for _ in 0..life.random.between(1, 4) {
             let pulses = life.random.below(life.pulses_left() + 1);
             life.pulses(pulses);
-            let event = *life.random.pick(&["access", "reverse", "reset", "rate 4", "rate 5", "show"]);
+            let event = *life.random.pick(&["access", "reverse", "reset", "rate 4", "rate 5", "ppp y2K", "show"]);
             life.say(event);
             let time = life.time() + life.random.below(20_000);
             life.clock(time);
@@ -97,7 +97,7 @@ pub fn ledgers(seed: u64) -> Script {
     life.finish("ordinary ledgers")
 }
 
-/// Sets an outstation up somewhere in the calendar with so many days to come; the day's number.
+/// Sets an outstation up somewhere in the calendar with so many days to come, and with any PPP; the day's number.
 fn begin(life: &mut Life, class: Class, days: u64) -> u64 {
     let first = life.random.below(calendar::DAYS - days - 5);
     let time = first * SECONDS_PER_DAY + life.random.below(SECONDS_PER_DAY);
@@ -116,7 +116,8 @@ fn begin(life: &mut Life, class: Class, days: u64) -> u64 {
         0 => u32::MAX - life.random.below(1_000_000) as u32,
         _ => life.random.bits() as u32,
     };
-    life.set_up(class, weight, time, total, counter);
+    let (identifier, time) = (with_ppp(&life.random_ppp()), life.time_words(time));
+    life.say(format!("setup {identifier} {} {weight} {time} {total} {counter}", letter(class)));
     first
 }
 
@@ -126,17 +127,7 @@ fn step(life: &mut Life, reads: &mut usize, reading: u64) {
         return read(life, reads);
     }
     match life.random.below(100) {
-        0..=44 => {
-            let left = life.pulses_left();
-            let pulses = match life.random.below(40) {
-                0 => left,
-                1 => left + 1,
-                2 => 0,
-                3 => life.random.bits(),
-                _ => life.random.below(left / 8 + 2),
-            };
-            life.pulses(pulses);
-        }
+        0..=44 => count(life),
         45..=79 => {
             let time = later(life);
             life.clock(time);
@@ -155,10 +146,11 @@ fn step(life: &mut Life, reads: &mut usize, reading: u64) {
         91..=92 => {
             life.say("reset");
         }
-        93..=96 => {
+        93..=95 => {
             let rate = life.random.between(1, RATES as u64);
             life.say(format!("rate {rate}"));
         }
+        96 => life.rewrite_ppp(),
         97 => {
             let day = life.today().saturating_sub(life.random.below(Class::A.days() as u64 + 5));
             life.day(day);
@@ -167,6 +159,19 @@ fn step(life: &mut Life, reads: &mut usize, reading: u64) {
             life.say("show");
         }
     }
+}
+
+/// Mostly few pulses, now and then about the most that the half-hour takes, or none, or any.
+fn count(life: &mut Life) {
+    let left = life.pulses_left();
+    let pulses = match life.random.below(40) {
+        0 => left,
+        1 => left + 1,
+        2 => 0,
+        3 => life.random.bits(),
+        _ => life.random.below(left / 8 + 2),
+    };
+    life.pulses(pulses);
 }
 
 /// A time not long after the present one, often a boundary or a second beside it.
@@ -228,13 +233,14 @@ fn read(life: &mut Life, reads: &mut usize) {
     *reads += 1;
 }
 
-/// A ledger opened about the outstation's days, kept blocks delivered to it lost, repeated and
-/// shuffled, and then asked for every day and those beside its window.
+/// A ledger opened about the outstation's days and with any PPP, kept blocks delivered to it lost,
+/// repeated and shuffled, and then asked for every day and those beside its window.
 fn deliveries(life: &mut Life, first: u64, days: u64) {
     let from = first.saturating_sub(life.random.below(3)) + life.random.below(4);
     let number = life.random.between(1, days + 4).min(calendar::DAYS - from);
     let from_word = life.day_word(from);
-    life.say(format!("open {IDENTIFIER} {from_word} {number}"));
+    let identifier = with_ppp(&life.random_ppp());
+    life.say(format!("open {identifier} {from_word} {number}"));
     let mut order: Vec<usize> = (0..KEPT_BLOCKS).chain(0..KEPT_BLOCKS).filter(|_| life.random.below(3) > 0).collect();
     life.random.shuffle(&mut order);
     for kept in order {

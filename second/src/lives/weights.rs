@@ -290,7 +290,9 @@ fn every_call(life: &mut Life) {
     for time in [now.saturating_sub(1), now, LAST_TIME + 1] {
         life.say(format!("clock @{time}"));
     }
-    life.say_all(&["access", "reverse", "meter 5", "reset", "rate 0", "rate 6", "read 1", "read 1 0", "off"]);
+    life.say_all(&[
+        "access", "reverse", "meter 5", "reset", "rate 0", "rate 6", "ppp d4W", "read 1", "read 1 0", "off",
+    ]);
     life.say_all(&[&format!("read {}", MOST_ASKED + 1), &format!("read 0 {HEADER_BYTES}")]);
     life.pulses(1);
     life.say(format!("on @{}", LAST_TIME + 1));

@@ -1,12 +1,12 @@
-//! The words of a script: the numbers, days, times and bytes that they name, and
-//! answers as they are printed.
+//! The words of a script: the numbers, days, times, bytes and events that they name,
+//! and answers as they are printed.
 
 use crate::answer::Answer;
 use crate::block::RATES;
 use crate::calendar::{self, SECONDS_PER_DAY};
-use crate::identifier::Identifier;
+use crate::identifier::{Identifier, Ppp};
 use crate::quantities;
-use crate::recorder::Class;
+use crate::recorder::{Class, Event};
 
 /// A number has at most so many digits.
 pub const MOST_DIGITS: usize = 18;
@@ -77,7 +77,7 @@ pub fn time<'a, 'b>(words: &'b [Word<'a>]) -> Option<(u64, &'b [Word<'a>])> {
 }
 
 /// Words that are one time and nothing else.
-pub fn only_time(words: &[Word]) -> Option<u64> {
+fn only_time(words: &[Word]) -> Option<u64> {
     match time(words)? {
         (time, []) => Some(time),
         _ => None,
@@ -86,6 +86,27 @@ pub fn only_time(words: &[Word]) -> Option<u64> {
 
 pub fn identifier(word: Word) -> Option<Identifier> {
     word.try_into().ok()
+}
+
+fn ppp(word: Word) -> Option<Ppp> {
+    word.try_into().ok()
+}
+
+/// The ten events.
+pub fn event(words: &[Word]) -> Option<Event> {
+    Some(match words {
+        [b"count", n] => Event::Count(number_u32(n)?),
+        [b"clock", rest @ ..] => Event::Clock(only_time(rest)?),
+        [b"off"] => Event::Off,
+        [b"on", rest @ ..] => Event::On(only_time(rest)?),
+        [b"access"] => Event::Access,
+        [b"meter", n] => Event::Meter(number_u32(n)?),
+        [b"reset"] => Event::Reset,
+        [b"rate", n] => Event::Rate(number_u32(n)?),
+        [b"reverse"] => Event::Reverse,
+        [b"ppp", characters] => Event::Ppp(ppp(characters)?),
+        _ => return None,
+    })
 }
 
 pub fn class(word: Word) -> Option<Option<Class>> {

@@ -1,4 +1,5 @@
-//! Every complete day of the class is there, whatever happens: random lives beside a history that forgets nothing.
+//! Every complete day of the class is there, whatever happens, and the identifier is set-up's with the last PPP
+//! accepted: random lives beside a history that forgets nothing.
 
 use super::*;
 use crate::block::{DEMAND_RESET, METER_CHANGED, POWER_LOST, RATES};
@@ -9,16 +10,17 @@ use crate::random::Random;
 
 const WEIGHT: u64 = 10_000;
 
-/// All days since set-up, as a block has them, kept by the events that were accepted.
-struct History {
-    time: u64,
+/// All days since set-up, as a block has them, and the identifier, kept by the events that were accepted.
+pub struct History {
+    pub identifier: Identifier,
+    pub time: u64,
     total: u64,
     last: u32,
     off_since: u64,
     reverse: bool,
     level2: bool,
-    first: u64,
-    days: Vec<Day>,
+    pub first: u64,
+    pub days: Vec<Day>,
 }
 
 impl History {
@@ -28,8 +30,8 @@ impl History {
         for value in &mut day.values[..ended(given.time, first)] {
             *value = (start % 10_000) as u16;
         }
-        let (time, total, last) = (given.time, given.total, given.last);
-        History { time, total, last, off_since: 0, reverse: false, level2: false, first, days: vec![day] }
+        let Recorder { identifier, time, total, last, .. } = *given;
+        History { identifier, time, total, last, off_since: 0, reverse: false, level2: false, first, days: vec![day] }
     }
 
     fn today(&mut self) -> &mut Day {
@@ -37,7 +39,7 @@ impl History {
     }
 
     /// A day since set-up.
-    fn day(&self, day: u64) -> &Day {
+    pub fn day(&self, day: u64) -> &Day {
         &self.days[(day - self.first) as usize]
     }
 
@@ -67,6 +69,11 @@ impl History {
             }
             Event::Rate(_) => {}
             Event::Reverse => self.reverse = true,
+            Event::Ppp(ppp) => {
+                let nine = self.identifier[3..].to_vec();
+                self.identifier = [&ppp[..], &nine].concat().try_into().unwrap();
+                self.level2 = true;
+            }
         }
     }
 
@@ -100,13 +107,13 @@ impl History {
 }
 
 /// An outstation beside its history.
-struct Watched {
-    outstation: Outstation,
-    history: History,
+pub struct Watched {
+    pub outstation: Outstation,
+    pub history: History,
 }
 
 impl Watched {
-    fn begin(class: Class, random: &mut Random) -> Watched {
+    pub fn begin(class: Class, random: &mut Random) -> Watched {
         let time = calendar::write_time(random.below(20_000 * SECONDS_PER_DAY));
         let total = random.below(TOTAL_MODULUS);
         let outstation = Outstation::new(class, WEIGHT, &time, total, random.bits() as u32);
@@ -126,11 +133,13 @@ impl Watched {
     }
 
     /// An event, and then all that must be there.
-    fn event(&mut self, event: Event) {
+    pub fn event(&mut self, event: Event) {
         if self.outstation.event(event) == 0 {
             self.history.accept(event);
         }
-        assert_eq!(self.outstation.recorder.time, self.history.time);
+        let Recorder { identifier, time, .. } = self.outstation.recorder;
+        assert_eq!((identifier, time), (self.history.identifier, self.history.time));
+        assert_eq!(identifier[3..], IDENTIFIER[3..]);
         for day in self.complete_days() {
             assert_eq!(self.outstation.day(&calendar::write_date(day)), *self.history.day(day));
         }
@@ -155,6 +164,7 @@ impl Watched {
     /// A read of one more than the complete days sends today and all of them.
     fn read(&mut self) {
         let block = self.outstation.read(self.class().complete_days() as u32 + 1);
+        assert_eq!(block[5..17], self.history.identifier);
         let sent = block::read(&block).unwrap().days;
         let complete = self.complete_days();
         assert_eq!(sent.len(), complete.len() + 1);
@@ -185,11 +195,20 @@ fn later(watched: &Watched, random: &mut Random) -> u64 {
     now + passed
 }
 
+/// Three letters or digits; now and then one of any bytes among them.
+pub fn any_ppp(random: &mut Random) -> Ppp {
+    let mut ppp = [0; 3].map(|_: u8| *random.pick(b"azAZ09mQ5"));
+    if random.once_in(4) {
+        ppp[random.below(3) as usize] = random.bits() as u8;
+    }
+    ppp
+}
+
 /// Anything that may happen, what is refused among it.
-fn any_event(watched: &Watched, random: &mut Random) -> Event {
+pub fn any_event(watched: &Watched, random: &mut Random) -> Event {
     let recorder = &watched.outstation.recorder;
     let left = lives::pulses_left(recorder);
-    match random.below(16) {
+    match random.below(17) {
         0..=4 => Event::Count(recorder.last.wrapping_add(random.below(left + left / 8 + 2) as u32)),
         5..=8 => Event::Clock(later(watched, random)),
         9 => Event::Off,
@@ -197,6 +216,7 @@ fn any_event(watched: &Watched, random: &mut Random) -> Event {
         12 => Event::Access,
         13 => Event::Reverse,
         14 => Event::Meter(random.bits() as u32),
+        15 => Event::Ppp(any_ppp(random)),
         _ if random.once_in(2) => Event::Reset,
         _ => Event::Rate(random.below(RATES as u64 + 2) as u32),
     }

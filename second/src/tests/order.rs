@@ -1,7 +1,11 @@
 //! The order of the answers: which refusal comes where several are due.
 
 use super::*;
+use crate::identifier;
 use crate::quantities;
+
+/// The first character by which a block's meter is known.
+const AT_M: usize = block::AT_IDENTIFIER + identifier::PPP_LENGTH;
 
 #[test]
 fn the_order_of_the_recorder_s_answers() {
@@ -11,20 +15,26 @@ fn the_order_of_the_recorder_s_answers() {
     outstation.recorder.power = false;
     outstation.values.push(0);
     let rate_too_many = Event::Rate(block::RATES as u32 + 1);
+    let wrong_ppp = Event::Ppp(*b"a-c");
     assert_eq!(outstation.event(rate_too_many), WRONG_LENGTH);
+    assert_eq!(outstation.event(wrong_ppp), WRONG_LENGTH);
     outstation.recorder.class = None;
     assert_eq!(outstation.event(rate_too_many), DAMAGED);
+    assert_eq!(outstation.event(wrong_ppp), DAMAGED);
     outstation.recorder.class = right.class;
     outstation.values.pop();
     assert_eq!(outstation.event(rate_too_many), DAMAGED);
+    assert_eq!(outstation.event(wrong_ppp), DAMAGED);
     outstation.recorder.weight = 10_000;
     assert_eq!(outstation.event(rate_too_many), WRONG_POWER);
+    assert_eq!(outstation.event(wrong_ppp), WRONG_POWER);
     assert_eq!(outstation.event(Event::Clock(0)), WRONG_POWER);
     assert_eq!(outstation.event(Event::Count(u32::MAX)), WRONG_POWER);
     assert_eq!(outstation.event(Event::On(0)), WRONG_TIME);
     assert_eq!(outstation.event(Event::On(right.time)), 0);
     assert_eq!(outstation.event(Event::On(0)), WRONG_POWER);
     assert_eq!(outstation.event(rate_too_many), OUT_OF_RANGE);
+    assert_eq!(outstation.event(wrong_ppp), OUT_OF_RANGE);
     assert_eq!(outstation.event(Event::Count(u32::MAX)), TOO_MANY_UNITS);
 }
 
@@ -80,7 +90,7 @@ fn the_order_of_the_ledger_s_answers() {
     assert_eq!(ledger::open(&IDENTIFIER, day, 1, &mut bytes), Answer::done(0));
     let mut longer = bytes.clone();
     longer.push(0);
-    longer[0] = b'a';
+    longer[0] = b'-';
     assert_eq!(ledger::summary(&longer, 0).answer, WRONG_LENGTH);
     longer.pop();
     assert_eq!(ledger::summary(&longer, 0).answer, DAMAGED);
@@ -89,7 +99,7 @@ fn the_order_of_the_ledger_s_answers() {
     assert_eq!(ledger::file(&mut longer, &[]), Answer::refused(DAMAGED));
     let mut damaged = block.clone();
     damaged[block::AT_NUMBER] = b'9';
-    damaged[block::AT_IDENTIFIER] = b'B';
+    damaged[AT_M] = b'Y';
     assert_eq!(ledger::file(&mut bytes, &damaged), Answer::refused(10));
     damaged[block::AT_TIME] = b'x';
     assert_eq!(ledger::file(&mut bytes, &damaged), Answer::refused_with(9, 17));
@@ -99,9 +109,11 @@ fn the_order_of_the_ledger_s_answers() {
     let held = bytes.clone();
     let mut other = block.clone();
     other[block::HEADER_BYTES + block::DAY_REVERSE] = 0x80;
-    other[block::AT_IDENTIFIER] = b'B';
+    other[AT_M] = b'Y';
     assert_eq!(ledger::file(&mut bytes, &other), Answer::refused(11));
-    other[block::AT_IDENTIFIER] = b'A';
+    other[AT_M] = b'x';
+    assert_eq!(ledger::file(&mut bytes, &other), Answer::refused_with(9, 5));
+    other[AT_M] = b'X';
     assert_eq!(ledger::file(&mut bytes, &other), Answer::refused(12));
     assert_eq!(bytes, held);
 }

@@ -59,6 +59,12 @@ enum-told-6 c = search needs
 reversed-requires : tie.Need-reversed-requires
 reversed-requires c κs = search needs
 
+enum-known-event-4 : tie.Need-enum-known-event-4
+enum-known-event-4 c = search needs
+
+ppp-is-requires : tie.Need-ppp-is-requires
+ppp-is-requires c κs = search needs
+
 returns : tie.Need-returns
 unfolding after
 returns c = rw (c .before .before .event .given .1, c .counted .ensures)
@@ -99,6 +105,10 @@ returns-9 : tie.Need-returns-9
 unfolding after
 returns-9 c = rw (c .before .enum-told6 .given .1, c .reversed .ensures)
 
+returns-10 : tie.Need-returns-10
+unfolding after
+returns-10 c = rw (c .before .before .event4 .given .1, c .ppp-is .ensures)
+
 pub changed-spec : {M : Type 1} → statement M
 changed-spec =
     tie.close
@@ -121,6 +131,8 @@ changed-spec =
     rate-is-requires
     enum-told-6
     reversed-requires
+    enum-known-event-4
+    ppp-is-requires
     returns
     returns-2
     returns-3
@@ -131,4 +143,5 @@ changed-spec =
     same-length-2
     returns-7
     returns-8
-    returns-9)
+    returns-9
+    returns-10)

@@ -57,6 +57,12 @@ enum-told-5 c = search needs
 power-answer-requires-5 : tie.Need-power-answer-requires-5
 power-answer-requires-5 c κs = search needs
 
+enum-known-event-5 : tie.Need-enum-known-event-5
+enum-known-event-5 c = search needs
+
+ppp-answer-requires : tie.Need-ppp-answer-requires
+ppp-answer-requires c κs = search needs
+
 returns : tie.Need-returns
 unfolding eventAnswer wrongPower
 returns c = rw (c .before .before .event .given .1) (c .count-answer .ensures)
@@ -93,6 +99,10 @@ returns-9 : tie.Need-returns-9
 unfolding eventAnswer wrongPower
 returns-9 c = rw (c .before .enum-told5 .given .1) (c .power-answer5 .ensures)
 
+returns-10 : tie.Need-returns-10
+unfolding eventAnswer wrongPower
+returns-10 c = rw (c .before .before .event5 .given .1) (c .ppp-answer .ensures)
+
 pub event-answer-spec : {M : Type 1} → statement M
 event-answer-spec =
     tie.close
@@ -115,6 +125,8 @@ event-answer-spec =
     rate-answer-requires
     enum-told-5
     power-answer-requires-5
+    enum-known-event-5
+    ppp-answer-requires
     returns
     returns-2
     returns-3
@@ -123,4 +135,5 @@ event-answer-spec =
     returns-6
     returns-7
     returns-8
-    returns-9)
+    returns-9
+    returns-10)
