@@ -1,5 +1,6 @@
-/* Holds the library against the plain C of the same calls, on blocks and ledgers that are right, nearly right and damaged: the same answers, the same
+/* Holds the library against the plain C of the same calls, on blocks, ledgers and tables that are right, nearly right and damaged: the same answers, the same
  * memory. Prints how often each answer of each call was given. Exit status 0 where the two never differ and every answer that a call can give was seen. */
+#include "agree.h"
 #include "cop6.h"
 #include "layout.h"
 #include "plain.h"
@@ -8,12 +9,10 @@
 #include <stdio.h>
 #include <string.h>
 
-enum { ROUNDS = 20000, MOST = 8, LEDGER = COP6_LEDGER_BYTES(MOST), BLOCK = COP6_BLOCK_BYTES(MOST), FILINGS = 4, CLEAR = 0xee };
+enum { ROUNDS = 20000, MOST = 8, LEDGER = COP6_LEDGER_BYTES(MOST), BLOCK = COP6_BLOCK_BYTES(MOST), FILINGS = 4 };
 enum { RUNS_ROUND = COP6_READING_ROUND / (COP6_HALVES * SAMPLE_ADVANCE) }; /* the day in which a sample's readings do so */
 
 /* ---- what was seen */
-
-enum call { DAY, DATE, LEDGER_LENGTH, READ, LISTING, HEADER, OPEN, FILE_BLOCK, DIFFERS, IDENTIFIER, WINDOW, MISSING, SUMMARY, FLAGS, HALVES, CALLS };
 
 /* Which answers a call can give; a day, date, length or listing is not an answer, and is counted as 0 where there is none to give, else as 1. */
 static const struct {
@@ -36,13 +35,16 @@ static const struct {
     [SUMMARY] = {"summary", {COP6_DONE, COP6_LENGTH, COP6_DAMAGED, COP6_RANGE, COP6_SHORT}, 5},
     [FLAGS] = {"flags", {COP6_DONE, COP6_LENGTH, COP6_DAMAGED, COP6_RANGE}, 4},
     [HALVES] = {"halves", {COP6_DONE, COP6_LENGTH, COP6_DAMAGED, COP6_RANGE, COP6_SHORT}, 5},
+    [TABLE_JUDGE] = {"table_judge", {COP6_DONE, COP6_RANGE, COP6_CLASH}, 3},
+    [TABLE_RATE] = {"table_rate", {COP6_DONE, COP6_RANGE, COP6_CLASH}, 3},
+    [TABLE_WEEK] = {"table_week", {COP6_DONE, COP6_RANGE, COP6_SHORT, COP6_CLASH}, 4},
 };
 static unsigned long given[CALLS][16];
 
 enum first_difference { NONE, START, VALUE, REVERSE, LEVEL2, DAY_FLAGS, DIFFERENCES };
 static const char *const differences[DIFFERENCES] = {"none", "start", "half-hour value", "reverse mark", "Level 2 mark", "flags"};
 static unsigned long first_differences[DIFFERENCES];
-static int differ;
+int differ;
 
 static void same(enum call call, uint32_t answer, uint64_t library, uint64_t plain) {
     given[call][answer & 15]++;
@@ -53,17 +55,16 @@ static void same(enum call call, uint32_t answer, uint64_t library, uint64_t pla
     }
 }
 
-static void same_answer(enum call call, uint64_t library, uint64_t plain) { same(call, COP6_ANSWER(library), library, plain); }
+void same_answer(enum call call, uint64_t library, uint64_t plain) { same(call, COP6_ANSWER(library), library, plain); }
 
-static void same_memory(enum call call, const void *library, const void *plain, size_t length) {
+void same_memory(enum call call, const void *library, const void *plain, size_t length) {
     if (memcmp(library, plain, length) != 0) {
         printf("%s: the memory left differs\n", calls[call].name);
         differ = 1;
     }
 }
 
-/* A refusal leaves the output as clear_output made it. */
-static void kept(enum call call, int refused, const void *output, size_t length) {
+void kept(enum call call, int refused, const void *output, size_t length) {
     const uint8_t *at = output;
     if (refused && (at[0] != CLEAR || memcmp(at, at + 1, length - 1) != 0)) {
         printf("%s: a refusal changed the output\n", calls[call].name);
@@ -109,8 +110,7 @@ static size_t some_room(size_t right, uint64_t *seed) {
     return chance == 0 ? sample_next(seed) % right : chance == 1 ? right - 1 : chance == 2 ? right + 2 : right;
 }
 
-/* Bytes that come near to being right: a digit for a digit, a letter, a bit more or less. */
-static void damage(uint8_t *at, uint64_t *seed) {
+void damage(uint8_t *at, uint64_t *seed) {
     switch (sample_next(seed) % 4) {
     case 0: *at = (uint8_t)('0' + sample_next(seed) % 10); break;
     case 1: *at = (uint8_t)(*at ^ 1u << sample_next(seed) % 8); break;
@@ -361,5 +361,7 @@ int main(void) {
     }
     if (!differ)
         compare_identifiers(&l, &seed);
+    if (!differ)
+        compare_tables(&seed);
     return differ ? 1 : unseen();
 }

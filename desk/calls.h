@@ -43,9 +43,22 @@ void open_ledger(void);
 /* A ledger that holds two half-hours of 240229, and the block that they came in. */
 void file_one_day(void);
 
+/* The cases of cop6_day and cop6_date. */
+void days(void);
+void dates(void);
+void every_date(void);
+
 /* The cases of cop6_differs. */
 void differs(void);
 void differs_in_days(void);
 void differs_refused(void);
+
+/* The cases of cop6_table_judge, cop6_table_rate and cop6_table_week. */
+void tables_judged(void);
+void tables_clash(void);
+void tables_full(void);
+void table_rates(void);
+void table_weeks(void);
+void table_weeks_inside(void);
 
 #endif

@@ -1,4 +1,4 @@
-/* The desk's library: blocks read from outstations, the ledger of one meter, the listing.
+/* The desk's library: blocks read from outstations, the ledger of one meter, the listing, tariff switching tables.
  *
  * Link libcop6.a: desk/build proves it and writes target/desk/libcop6.a, desk/install puts it, this header and a pkg-config file where they belong. Every
  * function in it is proved against its contract in crates/desk/src/lib.rt. It takes any bytes and any numbers, asks for no memory, keeps nothing between
@@ -7,7 +7,7 @@
  * What is lent: a pointer and how many elements it has. A pointer may be null where that number is 0. Two slices lent to one call must not overlap.
  *
  * What is answered: one number, answer * 2^32 + carried. Answer 0 is "done"; every other one is a refusal, which leaves all lent memory as it was.
- * docs/ANSWERS.md lists the answers, docs/BLOCK.md and docs/LEDGER.md the bytes.
+ * docs/ANSWERS.md lists the answers, docs/BLOCK.md, docs/LEDGER.md and docs/TARIFF.md the bytes.
  *
  * A day is its number, 0 for 2000-01-01 to 36,524 for 2099-12-31. Half-hour j of a day, 0 to 47, begins j * 30 minutes after midnight, UTC.
  * Readings, half-hour values and advances are in units of 10 Wh.
@@ -35,13 +35,14 @@ enum {
     COP6_DONE = 0,          /* done */
     COP6_LENGTH = 4,        /* the ledger has another length than its days need */
     COP6_DAMAGED = 5,       /* the ledger has a field out of range, or room that should be zero and isn't */
-    COP6_RANGE = 6,         /* an opening value out of range; a day outside the window */
+    COP6_RANGE = 6,         /* an opening value out of range; a day outside the window; a table out of range, or a time or day asked of it */
     COP6_SHORT = 7,         /* the output is too short; carries how many elements are needed */
     COP6_NO_BLOCK = 8,      /* under COP6_BLOCK_BYTES(0) bytes, length or version wrong, not whole records, over COP6_MOST_DAYS of them */
     COP6_FIELD = 9,         /* a wrong character, an unreal date or time, low flag bits set; carries the offset of the first such field */
     COP6_INCONSISTENT = 10, /* the fields are right one by one and do not go together */
     COP6_OTHER_METER = 11,  /* another meter than the ledger's: the last nine characters of the identifiers differ */
-    COP6_DIFFERS = 12       /* a start, value or mark other than the one held, or other flags of a day that is complete in both */
+    COP6_DIFFERS = 12,      /* a start, value or mark other than the one held, or other flags of a day that is complete in both */
+    COP6_CLASH = 14         /* two entries of a table that cover the same day with one rank, or switch at the same minute */
 };
 
 #define COP6_IDENTIFIER 12                     /* bytes of an identifier: PPP, M, YY, XXXXXX */
@@ -54,6 +55,8 @@ enum {
 #define COP6_BLOCK_BYTES(days) (112 + 219 * (size_t)(days)) /* day record i begins at COP6_BLOCK_BYTES(i) */
 #define COP6_LEDGER_BYTES(days) (16 + 114 * (size_t)(days)) /* what cop6_ledger_length answers, for an array of fixed length */
 #define COP6_LISTING_BYTES(days) (30 + 32 * (size_t)(days)) /* also enough for the text of a refusal */
+#define COP6_TABLE_BYTES 440                   /* of a tariff switching table */
+#define COP6_WEEK_BYTES 812                    /* enough for the text of every table's week */
 
 /* ---- blocks */
 
@@ -156,6 +159,19 @@ uint64_t cop6_flags(const uint8_t *ledger, size_t length, uint32_t day);
 #define COP6_HALF_REVERSE(half) ((int)((half) >> 32 & 1))
 #define COP6_HALF_LEVEL2(half) ((int)((half) >> 33 & 1))
 uint64_t cop6_halves(const uint8_t *ledger, size_t length, uint32_t day, uint64_t *out, size_t room);
+
+/* ---- tariff switching tables: one slice of bytes, a file as it is. Every call judges all of it first: 6, which comes before every 14, then 14. */
+
+/* Judges a table that an editor saved. 0 carries 0; 6; 14. */
+uint64_t cop6_table_judge(const uint8_t *table, size_t length);
+
+/* The rate at a time, in seconds from 2000-01-01 00:00:00. 0 carries it, 1 to COP6_RATES; 6, also for a time past 2099; 14. */
+uint64_t cop6_table_rate(const uint8_t *table, size_t length, uint64_t time);
+
+/* Writes seven days from a day on as text: a line for each day with its day type and the rate of each half-hour, and one for each day type used. 0 carries
+ * the bytes written, with no byte 0 behind them; 6, also for a day past 2099-12-25; 14; 7 carries the bytes needed, COP6_WEEK_BYTES at most. out's other
+ * bytes stay. */
+uint64_t cop6_table_week(const uint8_t *table, size_t length, uint32_t day, uint8_t *out, size_t room);
 
 #ifdef __cplusplus
 }

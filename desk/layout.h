@@ -1,5 +1,5 @@
-/* The places of docs/BLOCK.md and docs/LEDGER.md by name, for tests that write the bytes themselves: of the header, of a record, which begins at
- * COP6_BLOCK_BYTES(i), of what stands before the rooms, and of a room, which begins at COP6_LEDGER_BYTES(i). */
+/* The places of docs/BLOCK.md, docs/LEDGER.md and docs/TARIFF.md by name, for tests that write the bytes themselves: of the header, of a record, which begins at
+ * COP6_BLOCK_BYTES(i), of what stands before the rooms, of a room, which begins at COP6_LEDGER_BYTES(i), and of a table's slot, which begins at SLOT_BYTES * i. */
 #ifndef LAYOUT_H
 #define LAYOUT_H
 
@@ -49,6 +49,10 @@ enum {
     ROOM_BYTES = ROOM_LEVEL2 + MARK_BYTES
 };
 
+enum { SLOT_ENTRY, SLOT_TYPE, SLOT_THIRD, SLOT_FOURTH, SLOT_FIFTH, SLOT_BYTES, SLOTS = 88, DAY_TYPES = 8, EVERY_YEAR = 100 };
+enum { ENTRY_UNUSED, ENTRY_SWITCHING, ENTRY_EXCEPTION, ENTRY_WEEKDAYS, ENTRY_DEFAULT };
+
+_Static_assert(SLOTS * SLOT_BYTES == COP6_TABLE_BYTES, "the slots of a table are as long as cop6.h says");
 _Static_assert(HEAD_BYTES == COP6_BLOCK_BYTES(0) && HEAD_BYTES + RECORD_BYTES == COP6_BLOCK_BYTES(1), "the fields of a block are as long as cop6.h says");
 _Static_assert(LEDGER_HEAD_BYTES == COP6_LEDGER_BYTES(0) && LEDGER_HEAD_BYTES + ROOM_BYTES == COP6_LEDGER_BYTES(1),
                "the fields of a ledger are as long as cop6.h says");

@@ -1,5 +1,5 @@
-/* Holds a page against its ledger: page_check LEDGER <PAGE. The page must be well-formed and fetch nothing, and it must say and draw what the ledger holds.
- * Prints how many sayings it compared. */
+/* Holds a page against its ledger, and a table's week on it: page_check LEDGER [TABLE DATE] <PAGE. The page must be well-formed and fetch nothing, and it must
+ * say and draw what the ledger holds, and the table's rates. Prints how many sayings it compared. */
 #include "cop6.h"
 #include "markup.h"
 #include "page_due.h"
@@ -55,6 +55,8 @@ static void ends(const struct element *e, const struct element *parent, const ch
         take_scale(text);
     else if (strcmp(name, "li") == 0 && strcmp(value_of(parent, "class"), "stretches") == 0)
         add(&said, "stretch %s", text);
+    else if (strcmp(name, "li") == 0 && strcmp(value_of(parent, "class"), "types") == 0)
+        add(&said, "types %s", text);
     else if (strcmp(name, "th") == 0 && strcmp(value_of(e, "scope"), "row") == 0)
         add(&said, "row %s %s", value_of(parent, "class"), text);
     else if (strcmp(name, "caption") == 0 || strcmp(name, "g") == 0)
@@ -67,7 +69,7 @@ static void ends(const struct element *e, const struct element *parent, const ch
         add(&said, "rect %s %s %s %s", class, x, value_of(e, "width"), text);
     else if ((strcmp(name, "use") == 0 && *x != '\0') || strcmp(name, "a") == 0)
         add(&said, "%s %s %s", name, value_of(e, "href"), x);
-    else if (strcmp(name, "td") == 0 && (strcmp(class, "total") == 0 || strcmp(class, "held") == 0 || strcmp(class, "flags") == 0))
+    else if (strcmp(name, "td") == 0 && strcmp(class, "halves") != 0 && *class != '\0')
         add(&said, "%s %s", class, text);
 }
 
@@ -87,18 +89,30 @@ static unsigned compare(void) {
     return lines;
 }
 
+static size_t read_whole(const char *name, uint8_t *to, size_t room) {
+    FILE *file = fopen(name, "rb");
+    size_t length = file == NULL ? 0 : fread(to, 1, room, file);
+    if (file == NULL || ferror(file) || fclose(file) != 0)
+        fail("a file that can't be read");
+    return length;
+}
+
 int main(int count, char **args) {
     static char page[MOST_BYTES];
-    static uint8_t ledger[COP6_LEDGER_BYTES(COP6_MOST_DAYS) + 1];
-    FILE *file = count == 2 ? fopen(args[1], "rb") : NULL;
-    if (file == NULL)
-        fail("no ledger: page_check LEDGER <PAGE");
-    size_t length = fread(ledger, 1, sizeof ledger, file), page_length = fread(page, 1, sizeof page - 1, stdin);
-    if (ferror(file) || fclose(file) != 0 || ferror(stdin))
-        fail("a file that can't be read");
+    static uint8_t ledger[COP6_LEDGER_BYTES(COP6_MOST_DAYS) + 1], table[COP6_TABLE_BYTES + 1];
+    struct tariff tariff = {table, 0, 0};
+    if (count != 2 && count != 4)
+        fail("wrong usage: page_check LEDGER [TABLE DATE] <PAGE");
+    size_t length = read_whole(args[1], ledger, sizeof ledger), page_length = fread(page, 1, sizeof page - 1, stdin);
+    if (ferror(stdin))
+        fail("a page that can't be read");
+    if (count == 4) {
+        tariff.length = read_whole(args[2], table, sizeof table);
+        tariff.day = cop6_day((uint32_t)atoi(args[3]));
+    }
     check_fetches_nothing(page);
     read_markup(page, page_length, begins, ends);
-    reckon(ledger, length, &scale, &due);
+    reckon(ledger, length, count == 4 ? &tariff : NULL, &scale, &due);
     printf("%u\n", compare());
     return 0;
 }

@@ -14,9 +14,6 @@
 enum { WIDTH = 486, STRETCHES = 20 };
 
 #define KWH "%u.%02u"
-#define UNITS(u) (unsigned)((u) / 100), (unsigned)((u) % 100)
-#define CLOCK "%02u:%02u"
-#define TIME(half) (half) / 2, (half) % 2 * 30
 
 void fail(const char *what) {
     fprintf(stderr, "page_check: %s\n", what);
@@ -41,16 +38,15 @@ static uint32_t first, days;
 static const struct scale *scale;
 static struct lines *due;
 
-static uint64_t sure(uint64_t r) {
+uint64_t sure(uint64_t r) {
     if (COP6_ANSWER(r) != COP6_DONE)
-        fail("the library refuses the ledger");
+        fail("the library refuses the ledger or the table");
     return r;
 }
 
 static uint32_t missing_of(uint32_t day) { return COP6_COUNT(sure(cop6_missing(ledger, length, day))); }
 
-/* A day's date in a format of strftime; the last two answers stay as they are. */
-static const char *date(uint32_t day, const char *format) {
+const char *date(uint32_t day, const char *format) {
     static char text[2][32];
     static unsigned turn;
     time_t seconds = (time_t)day * 86400 + 946684800;
@@ -90,7 +86,7 @@ static struct share share_of(uint32_t a, uint32_t b) {
 
 static void due_total(const struct share *s) {
     if (s->held > 0)
-        add(due, "total " KWH, UNITS(s->energy));
+        add(due, "total " KWH, OF_100(s->energy));
     else
         add(due, "total &#8211;");
 }
@@ -105,13 +101,13 @@ static void due_head(void) {
     add(due, "window %s to %s, %u day%s", date(first, "%F"), date(first + days - 1, "%F"), days, days == 1 ? "" : "s");
     add(due, "held %u of %u half-hours, %s&#160;%%", s.held, all, share);
     add(due, "missing %u half-hour%s", all - s.held, all - s.held == 1 ? "" : "s");
-    add(due, "energy " KWH " kWh", UNITS(s.energy));
+    add(due, "energy " KWH " kWh", OF_100(s.energy));
     if (s.held == 0)
         add(due, "largest no half-hour is held");
     else if (s.largest == 0)
         add(due, "largest no half-hour held has any energy");
     else
-        add(due, "largest " KWH " kWh, %s " CLOCK " to " CLOCK, UNITS(s.largest), date(s.largest_day, "%F"), TIME(s.largest_half), TIME(s.largest_half + 1));
+        add(due, "largest " KWH " kWh, %s " CLOCK " to " CLOCK, OF_100(s.largest), date(s.largest_day, "%F"), TIME(s.largest_half), TIME(s.largest_half + 1));
     if (scale->shades == 0 ? s.largest > 0 : s.largest < scale->low[scale->shades - 1] || s.largest > scale->high[scale->shades - 1])
         fail("a scale that does not end where the largest half-hour does");
 }
@@ -149,8 +145,8 @@ static void due_overview(void) {
             if (d.held < COP6_HALVES)
                 add(due, "rect missing %d 9 ", x);
             if (d.held > 0)
-                add(due, "rect whole %d " KWH " ", x, UNITS(d.held * 900 / COP6_HALVES));
-            add(due, "g %s: %u of %d half-hours held, " KWH " kWh", date(day, "%F"), d.held, COP6_HALVES, UNITS(d.energy));
+                add(due, "rect whole %d " KWH " ", x, OF_100(d.held * 900 / COP6_HALVES));
+            add(due, "g %s: %u of %d half-hours held, " KWH " kWh", date(day, "%F"), d.held, COP6_HALVES, OF_100(d.energy));
         }
         due_total(&s);
         add(due, s.held < all ? "total %u" : "total ", all - s.held);
@@ -158,6 +154,13 @@ static void due_overview(void) {
 }
 
 static unsigned place(unsigned half) { return 10 * half + 2 * (half / 12); }
+
+unsigned share_before(unsigned half) { return place(half) * 10000 / WIDTH; }
+
+void due_hours(struct lines *to) {
+    for (unsigned hour = 0; hour < 24; hour++)
+        add(to, "hour " SHARE " %02u", OF_100(share_before(2 * hour)), hour);
+}
 
 static void due_halves(uint32_t day) {
     uint64_t half[COP6_HALVES];
@@ -167,7 +170,7 @@ static void due_halves(uint32_t day) {
         unsigned advance = COP6_HALF_ADVANCE(half[j]), shade = 0;
         while (shade < scale->shades && scale->low[shade] <= advance)
             shade++;
-        add(due, "rect s%u %u 9.4 %s " CLOCK " to " CLOCK ": " KWH " kWh%s%s", shade, place(j), date(day, "%F"), TIME(j), TIME(j + 1), UNITS(advance),
+        add(due, "rect s%u %u 9.4 %s " CLOCK " to " CLOCK ": " KWH " kWh%s%s", shade, place(j), date(day, "%F"), TIME(j), TIME(j + 1), OF_100(advance),
             COP6_HALF_REVERSE(half[j]) ? ", reverse running" : "", COP6_HALF_LEVEL2(half[j]) ? ", Level 2 access" : "");
         if (COP6_HALF_REVERSE(half[j]))
             add(due, "use #reverse %u", place(j));
@@ -185,7 +188,7 @@ static void due_day(uint32_t day) {
     uint32_t flags = COP6_CARRIED(sure(cop6_flags(ledger, length, day)));
     sure(cop6_summary(ledger, length, day, summary, COP6_SUMMARY));
     add(due, "row day%s %s", *date(day, "%u") >= '6' ? " weekend" : "", date(day, "%F %a"));
-    add(due, "label %s: %u of %d half-hours held, " KWH " kWh", date(day, "%F"), s.held, COP6_HALVES, UNITS(s.energy));
+    add(due, "label %s: %u of %d half-hours held, " KWH " kWh", date(day, "%F"), s.held, COP6_HALVES, OF_100(s.energy));
     due_halves(day);
     due_total(&s);
     if (summary[COP6_HELD] == 0)
@@ -199,14 +202,13 @@ static void due_months(void) {
     for (uint32_t day = first; day < first + days; day++) {
         if (day == first || month_ends(day - 1)) {
             add(due, "caption %s", date(day, "%B %Y"));
-            for (unsigned hour = 0; hour < 24; hour++)
-                add(due, "hour " KWH "%% %02u", UNITS(place(2 * hour) * 10000 / WIDTH), hour);
+            due_hours(due);
         }
         due_day(day);
     }
 }
 
-void reckon(const uint8_t *of, size_t of_length, const struct scale *shown, struct lines *to) {
+void reckon(const uint8_t *of, size_t of_length, const struct tariff *tariff, const struct scale *shown, struct lines *to) {
     ledger = of;
     length = of_length;
     scale = shown;
@@ -216,6 +218,8 @@ void reckon(const uint8_t *of, size_t of_length, const struct scale *shown, stru
     days = COP6_COUNT(window);
     due_head();
     due_stretches();
+    if (tariff != NULL)
+        reckon_rates(tariff, due);
     for (unsigned shade = 1; shade <= scale->shades; shade++)
         add(due, "swatch s%u", shade);
     if (days > 31)

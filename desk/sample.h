@@ -1,4 +1,5 @@
-/* Blocks as an outstation would send them, made up: for the benchmark, and for the comparison with plain C. */
+/* Blocks as an outstation would send them, and tariff switching tables as an editor would save them, made up: for the benchmark, and for the comparison with
+ * plain C. */
 #ifndef SAMPLE_H
 #define SAMPLE_H
 
@@ -18,5 +19,11 @@ void sample_bytes(uint8_t *out, size_t n, uint64_t number);
 /* Writes a block of so many days, 0 to COP6_MOST_DAYS, read ten minutes after half-hour k of `day` began; returns its length, COP6_BLOCK_BYTES(days).
  * Blocks of the same life agree with each other. */
 size_t sample_block(uint8_t *out, uint32_t days, uint32_t day, uint32_t k, uint32_t life);
+
+/* The most entries of their kinds that a table may have. */
+enum { SAMPLE_SWITCHINGS = 48, SAMPLE_EXCEPTIONS = 32, SAMPLE_WEEKDAYS = 7 };
+
+/* Writes COP6_TABLE_BYTES of a table that is accepted, slots in no order: so many switching times, 1 at least, exceptions, and weekday entries, and a default. */
+void sample_table(uint8_t *out, uint32_t switchings, uint32_t exceptions, uint32_t weekdays, uint64_t *seed);
 
 #endif

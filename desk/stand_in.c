@@ -1,5 +1,5 @@
-/* The library by plain C: a program links this, plain.c and plain_desk.c where the archive is not for its processor, as a build with sanitizers for another
- * one than x86-64. It proves nothing. */
+/* The library by plain C: a program links this, plain.c, plain_desk.c and plain_tariff.c where the archive is not for its processor, as a build with sanitizers
+ * for another one than x86-64. It proves nothing. */
 #include "cop6.h"
 #include "plain.h"
 
@@ -22,3 +22,8 @@ uint64_t cop6_missing(const uint8_t *ledger, size_t length, uint32_t day) { retu
 uint64_t cop6_summary(const uint8_t *ledger, size_t length, uint32_t day, uint64_t *out, size_t room) { return plain_summary(ledger, length, day, out, room); }
 uint64_t cop6_flags(const uint8_t *ledger, size_t length, uint32_t day) { return plain_flags(ledger, length, day); }
 uint64_t cop6_halves(const uint8_t *ledger, size_t length, uint32_t day, uint64_t *out, size_t room) { return plain_halves(ledger, length, day, out, room); }
+uint64_t cop6_table_judge(const uint8_t *table, size_t length) { return plain_table_judge(table, length); }
+uint64_t cop6_table_rate(const uint8_t *table, size_t length, uint64_t time) { return plain_table_rate(table, length, time); }
+uint64_t cop6_table_week(const uint8_t *table, size_t length, uint32_t day, uint8_t *out, size_t room) {
+    return plain_table_week(table, length, day, out, room);
+}

@@ -1,5 +1,5 @@
-/* What a ledger holds: summary, missing, show, values, and its page. The ledger and the days asked for are judged before the first line, so that all is
- * written or nothing: after that the library's calls are done. */
+/* What a ledger holds: summary, missing, show, values, and its page. The ledger, the days asked for and a table are judged before the first line, so that all
+ * is written or nothing: after that the library's calls are done. */
 #include "commands.h"
 #include "cop6.h"
 #include "dates.h"
@@ -33,21 +33,26 @@ static int judge(const char *name, uint32_t dates, struct span *s) {
                        cop6_date(first <= s->first && s->first <= last ? s->last : s->first), cop6_date(first), cop6_date(last));
 }
 
-static int ask(char **args, int count, void (*answer)(const struct span *)) {
-    struct span s = {.ledger = {NULL, 0}};
+/* Reads the ledger of which days are asked for, if they are; its memory is the caller's to free. */
+static int take_span(char **args, int count, struct span *s) {
     struct stat of;
     int status = DONE;
+    *s = (struct span){.ledger = {NULL, 0}};
     if (count > 1)
-        status = date(args[1], &s.first);
-    s.last = s.first;
+        status = date(args[1], &s->first);
+    s->last = s->first;
     if (status == DONE && count > 2)
-        status = date(args[2], &s.last);
-    if (status == DONE && s.last < s.first)
+        status = date(args[2], &s->last);
+    if (status == DONE && s->last < s->first)
         status = trouble("%s is before %s", args[2], args[1]);
     if (status == DONE)
-        status = read_ledger(args[0], &s.ledger, &of);
-    if (status == DONE)
-        status = judge(name_of(args[0]), (uint32_t)count - 1, &s);
+        status = read_ledger(args[0], &s->ledger, &of);
+    return status == DONE ? judge(name_of(args[0]), (uint32_t)count - 1, s) : status;
+}
+
+static int ask(char **args, int count, void (*answer)(const struct span *)) {
+    struct span s;
+    int status = take_span(args, count, &s);
     if (status == DONE)
         answer(&s);
     free(s.ledger.at);
@@ -182,6 +187,18 @@ int values_command(char **args, int count) { return ask(args, count, values); }
 
 /* ---- page */
 
-static void page(const struct span *s) { write_page(s->ledger.at, s->ledger.length); }
-
-int page_command(char **args, int count) { return ask(args, count, page); }
+/* With a table, its week from a date on; where none is given, from the window's first day. */
+int page_command(char **args, int count) {
+    struct span s = {.ledger = {NULL, 0}};
+    struct week week;
+    uint32_t day = 0;
+    int status = count > 2 ? date(args[2], &day) : DONE;
+    if (status == DONE)
+        status = take_span(args, 1, &s);
+    if (status == DONE && count > 1)
+        status = read_week(args[1], count > 2 ? day : s.first, &week);
+    if (status == DONE)
+        write_page(s.ledger.at, s.ledger.length, count > 1 ? &week : NULL);
+    free(s.ledger.at);
+    return status;
+}

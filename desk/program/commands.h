@@ -15,4 +15,6 @@ int page_command(char **args, int count);
 int list_command(char **args, int count);
 int block_command(char **args, int count);
 
+int week_command(char **args, int count);
+
 #endif

@@ -1,4 +1,4 @@
-/* A desk: keeps a meter's ledger in a file, files blocks in it, and says what it holds. All that it knows of blocks, ledgers and dates is the library's.
+/* A desk: keeps a meter's ledger in a file, files blocks in it, and says what it holds. All that it knows of blocks, ledgers, tables and dates is the library's.
  * Here are its commands as a table, and the usage, which is written from it. */
 #define _XOPEN_SOURCE 700
 
@@ -30,9 +30,11 @@ static const struct command {
     {"missing", "LEDGER [DATE [DATE]]", 1, 3, "the half-hours that are not held, in stretches", missing_command},
     {"show", "LEDGER [DATE [DATE]]", 1, 3, "draw the half-hours of each day", show_command},
     {"values", "LEDGER [DATE [DATE]]", 1, 3, "the half-hours held, comma-separated, a line for each", values_command},
-    {"page", "LEDGER", 1, 1, "a page for a browser or for paper, HTML: the whole window in one picture", page_command},
+    {"page", "LEDGER [TABLE [DATE]]", 1, 3,
+     "a page for a browser or for paper, HTML: the whole window in one\npicture; with a table, its rates of seven days as well", page_command},
     {"list", "BLOCK", 1, 1, "list a block, a line for each day", list_command},
     {"block", "BLOCK", 1, 1, "a block's registers and demands, with their names", block_command},
+    {"week", "TABLE DATE", 2, 2, "draw seven days of a tariff switching table: the rate of each half-hour", week_command},
     {"--help", "", 0, 0, "this; also -h", help_command},
     {"--version", "", 0, 0, "the version of the desk and its library", version_command},
     {"-h", "", 0, 0, NULL, help_command},
@@ -42,11 +44,12 @@ enum { COMMANDS = sizeof commands / sizeof commands[0], WORDS = 40 };
 
 static const char notes[] =
     "\n"
-    "DATE is YYMMDD; two give a first and a last day, none the whole window. BLOCK may be -, standard input. Readings, values\n"
-    "and advances are in units of 10 Wh, times in UTC. A refused block changes nothing; the other blocks of the command are\n"
-    "filed all the same. LEDGER.new, beside a ledger, is the desk's own: the file that is to replace it.\n"
+    "DATE is YYMMDD; two give a first and a last day, none the whole window. BLOCK may be -, standard input; so may TABLE.\n"
+    "Readings, values and advances are in units of 10 Wh, times in UTC. A refused block changes nothing; the other blocks of\n"
+    "the command are filed all the same. LEDGER.new, beside a ledger, is the desk's own: the file that is to replace it.\n"
     "IDENTIFIER is twelve characters. A ledger's meter is the last nine: it takes blocks of these whatever the first three are,\n"
     "which the site may set, and keeps its own as they are given here; where they are not known, 000.\n"
+    "The seven days begin with DATE; on a page, where none is given, with the window's first day.\n"
     "\n"
     "Exit status, the highest that holds:\n"
     "0  done\n"

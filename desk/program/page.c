@@ -4,6 +4,7 @@
 #include "dates.h"
 #include "page_style.h"
 #include "picture.h"
+#include "rates.h"
 #include "say.h"
 
 #include <inttypes.h>
@@ -131,7 +132,7 @@ static void print_legend(const struct window *w) {
 
 /* ---- the page */
 
-int write_page(const uint8_t *ledger, size_t length) {
+int write_page(const uint8_t *ledger, size_t length, const struct week *week) {
     struct window w;
     if (take_window(ledger, length, &w) != 0)
         return 1;
@@ -143,6 +144,8 @@ int write_page(const uint8_t *ledger, size_t length) {
     print_facts(&w);
     if (w.held < w.days * COP6_HALVES)
         print_stretches(&w);
+    if (week != NULL)
+        draw_rates(week);
     print_legend(&w);
     if (w.days > 31)
         draw_overview(&w);

@@ -1,5 +1,6 @@
 /* How the page looks: on a wide screen, on a narrow one, and on paper. Shades go from light to dark in one hue, so they stand in the same order in grey;
- * what is missing is hatched in orange, which no shade comes near in colour or in grey. */
+ * what is missing is hatched in orange, which no shade comes near in colour or in grey. Rates are of no order: each has a light hue, on which its figure is
+ * legible. */
 #ifndef PAGE_STYLE_H
 #define PAGE_STYLE_H
 
@@ -37,6 +38,10 @@ static const char page_style[] =
     ".days .halves { height: 18px; }\n"
     ".halves svg { display: block; width: 100%; height: 16px; overflow: visible; }\n"
     ".hours text { font-size: 11px; fill: #333; }\n"
+    ".rates tbody text { font-size: 11px; fill: #1a1a1a; text-anchor: middle; pointer-events: none; }\n"
+    ".days thead .type { width: 4.8rem; }\n"
+    ".type { padding-left: .6rem; }\n"
+    ".types { margin: 0 0 .4rem; }\n"
     "th.total, td.total { padding-left: .6rem; text-align: right; }\n"
     ".held { padding-left: .6rem; }\n"
     ".flags { padding-left: .6rem; }\n"
@@ -55,6 +60,15 @@ static const char page_style[] =
     ".s6 { fill: #2171b5; }\n"
     ".s7 { fill: #08519c; }\n"
     ".s8 { fill: #06254f; }\n"
+    ".r1 { fill: #ededed; }\n"
+    ".r2 { fill: #fbd48a; }\n"
+    ".r3 { fill: #bfe3b4; }\n"
+    ".r4 { fill: #f4b6b6; }\n"
+    ".r5 { fill: #d2c4ec; }\n"
+    ".r6 { fill: #a9dfdf; }\n"
+    ".r7 { fill: #dcc39a; }\n"
+    ".r8 { fill: #b8c9f2; }\n"
+    ".changes { fill: #fff; stroke: #555; stroke-width: 1px; }\n"
     ".whole { fill: #4292c6; }\n"
     ".missing { fill: url(#hatch); stroke: #c2410c; stroke-width: 1px; vector-effect: non-scaling-stroke; }\n"
     ".reverse { fill: #000; stroke: #fff; stroke-width: 2.5px; paint-order: stroke; }\n"
@@ -72,8 +86,9 @@ static const char page_style[] =
     "  .days thead .total { width: 2.5rem; }\n"
     "  .days thead .held { width: 2.3rem; }\n"
     "  .days thead .flags { width: 2.7rem; }\n"
-    "  .days .total, .held, .flags { padding-left: .25rem; }\n"
-    "  .hours text { font-size: 9px; }\n"
+    "  .days thead .type { width: 2.3rem; white-space: normal; }\n"
+    "  .days .total, .held, .flags, .type { padding-left: .25rem; }\n"
+    "  .hours text, .rates tbody text { font-size: 9px; }\n"
     "  abbr { min-width: .8rem; margin-right: 1px; font-size: 9px; }\n"
     "}\n"
     "@page { size: A4; margin: 12mm; }\n"
@@ -83,13 +98,14 @@ static const char page_style[] =
     "  th, td { line-height: 13px; }\n"
     "  .days .halves { height: 13px; }\n"
     "  .halves svg { height: 12px; }\n"
-    "  .hours text { font-size: 8px; }\n"
+    "  .hours text, .rates tbody text { font-size: 8px; }\n"
     "  .between { display: inline; }\n"
     "  .days thead { position: static; }\n"
     "  .days thead th { width: 6.2rem; }\n"
     "  .days thead .total { width: 3.1rem; }\n"
     "  .days thead .held { width: 3.1rem; }\n"
     "  .days thead .flags { width: 3.1rem; }\n"
+    "  .days thead .type { width: 3.4rem; }\n"
     "  .overview { max-width: 34rem; }\n"
     "  .stretches { columns: 18rem auto; }\n"
     "  abbr { min-width: .8rem; font-size: 7pt; line-height: 9px; }\n"

@@ -37,7 +37,7 @@ static void print_total(uint32_t held, uint64_t units) {
         fputs("&#8211;", stdout);
 }
 
-static void print_clock(uint32_t half) { printf("%02" PRIu32 ":%02" PRIu32, half / 2, half % 2 * 30); }
+void print_clock(uint32_t half) { printf("%02" PRIu32 ":%02" PRIu32, half / 2, half % 2 * 30); }
 
 /* ---- signs */
 
@@ -100,12 +100,17 @@ static void print_flags(uint32_t flags) {
         fputs("<abbr title=\"the maximum demand was reset\">D</abbr>", stdout);
 }
 
-static void print_day(const struct window *w, const struct day *d) {
+void begin_row(uint32_t day) {
     static const char *const names[] = {"Mon", "Tue", "Wed", "Thu", "Fri", "Sat", "Sun"};
-    uint32_t name = weekday(d->number);
+    uint32_t name = weekday(day);
     printf("<tr class=\"%s\"><th scope=\"row\"><span class=\"month\">", name >= 5 ? "day weekend" : "day");
-    print_month(d->number);
-    printf("-</span>%02" PRIu32 " %s</th><td class=\"halves\">", cop6_date(d->number) % 100, names[name]);
+    print_month(day);
+    printf("-</span>%02" PRIu32 " %s</th>", cop6_date(day) % 100, names[name]);
+}
+
+static void print_day(const struct window *w, const struct day *d) {
+    begin_row(d->number);
+    fputs("<td class=\"halves\">", stdout);
     draw_day(w, d);
     fputs("</td><td class=\"total\">", stdout);
     print_total(d->k, d->advance);
@@ -121,14 +126,13 @@ static void print_day(const struct window *w, const struct day *d) {
 
 /* ---- a month */
 
-/* Where an hour begins, as hundredths of a per cent of the drawing's width. */
-static uint32_t hour_place(uint32_t hour) { return place(2 * hour) * 10000 / WIDTH; }
+uint32_t share_before(uint32_t half) { return place(half) * 10000 / WIDTH; }
 
-static void draw_hours(void) {
+void draw_hours(void) {
     fputs("<svg class=\"hours\" height=\"16\" aria-hidden=\"true\">", stdout);
     for (uint32_t hour = 0; hour < 24; hour++)
-        printf("<text%s x=\"%" PRIu32 ".%02" PRIu32 "%%\" y=\"12\">%02" PRIu32 "</text>", hour % 3 == 0 ? "" : " class=\"between\"", hour_place(hour) / 100,
-               hour_place(hour) % 100, hour);
+        printf("<text%s x=\"%" PRIu32 ".%02" PRIu32 "%%\" y=\"12\">%02" PRIu32 "</text>", hour % 3 == 0 ? "" : " class=\"between\"",
+               share_before(2 * hour) / 100, share_before(2 * hour) % 100, hour);
     fputs("</svg>", stdout);
 }
 

@@ -7,6 +7,18 @@
 /* An energy in kWh, as 27.06. */
 void print_kwh(uint64_t units);
 
+/* A half-hour's beginning, as 07:30; 24:00 for COP6_HALVES. */
+void print_clock(uint32_t half);
+
+/* Where a half-hour begins, as hundredths of a per cent of a day's width. */
+uint32_t share_before(uint32_t half);
+
+/* The first cell of a day's row: its date and weekday; and the row's tag before it. */
+void begin_row(uint32_t day);
+
+/* The hours over a table's drawings. */
+void draw_hours(void);
+
 /* The signs and the pattern that the drawings and the legend use; each page has them once, before the first use. */
 void draw_signs(void);
 

@@ -3,9 +3,9 @@
 
 number() { sed -n "s/^#define COP6_$1 \([0-9]*\).*/\1/p" desk/cop6.h; } # NAME
 
-most_days=$(number MOST_DAYS) halves=$(number HALVES) value_round=$(number VALUE_ROUND)
+most_days=$(number MOST_DAYS) halves=$(number HALVES) value_round=$(number VALUE_ROUND) table_bytes=$(number TABLE_BYTES)
 read -r head_bytes record_bytes < <(sed -n 's/^#define COP6_BLOCK_BYTES(days) (\([0-9]*\) + \([0-9]*\) .*/\1 \2/p' desk/cop6.h)
-: "${most_days:?}" "${halves:?}" "${value_round:?}" "${head_bytes:?}" "${record_bytes:?}"
+: "${most_days:?}" "${halves:?}" "${value_round:?}" "${table_bytes:?}" "${head_bytes:?}" "${record_bytes:?}"
 
 block_bytes() { echo $((head_bytes + record_bytes * $1)); } # DAYS
 

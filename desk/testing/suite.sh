@@ -26,7 +26,8 @@ usage_and_opening() {
     expect usage_open open m.ledger
     expect usage_version --version 2
     expect usage_summary summary
-    expect usage_page page m.ledger 240228
+    expect usage_page page m.ledger m.table 240228 240229
+    expect usage_week week m.table
     expect open_no_date open m.ledger $meter 230229 3
     expect open_date open m.ledger $meter 2024-02-28 3
     expect open_no_number open m.ledger $meter 240228 three
@@ -158,6 +159,50 @@ asking() {
     expect block_refused block $b/wrong_value
 }
 
+# Seven days of a tariff switching table, and what is refused of it.
+weeks() {
+    holds 'the sample table is the drawn one' cmp $b/table "$here/samples/tariff.table"
+    holds 'the sample that clashes is the drawn one with two defaults' cmp $b/table_clash "$here/samples/tariff-clash.table"
+    expect week week $b/table 240226
+    holds 'the week is as docs/TARIFF.md draws it' diff "$room/out" <(sed -n '/^## A week drawn/,$s/^    //p' "$here/docs/TARIFF.md")
+    expect week week $b/table_shuffled 240226
+    expect week_exceptions week $b/table 240501
+    expect week_inside week $b/table_inside 240226
+    expect week_full week $b/table_full 240226
+    expect week_last week $b/table 991225
+    "${desk[@]}" week - 240226 <$b/table >"$room/out"
+    holds 'a table comes from standard input' diff "$room/out" <(sed '$d' "$here/desk/expected/week")
+    expect week_past week $b/table 991226
+    expect week_clash_past week $b/table_clash 991226
+    for refusal in clash no_default wrong_rate no_midnight cut longer; do
+        expect "week_$refusal" week $b/table_$refusal 240226
+    done
+    expect week_empty week $b/empty 240226
+    expect week_block week $b/too_long 240226
+    expect week_no_file week no.table 240226
+    expect week_folder week . 240226
+    expect week_date week $b/table 2024-02-26
+    expect week_no_date week $b/table 230229
+}
+
+# A page with a table: it is judged before the first line is written.
+pages_of_tables() {
+    local week
+    for week in table "table_full 240101"; do
+        # shellcheck disable=SC2086
+        "${desk[@]}" page m.ledger $b/$week >"$room/out"
+        holds "a page with $week is written" [ "$(head -n 1 "$room/out") $(tail -n 1 "$room/out")" = '<!DOCTYPE html> </html>' ]
+    done
+    expect page_table_date page m.ledger $b/table 240230
+    expect page_table_past page m.ledger $b/table 991226
+    expect page_table_clash page m.ledger $b/table_clash
+    expect page_no_table page m.ledger no.table
+    expect page_no_ledger page no.ledger $b/table_clash
+    "${desk[@]}" open late.ledger $meter 991228 3
+    expect page_table_late page late.ledger $b/table
+    rm late.ledger
+}
+
 damaged_ledgers() {
     head -c -1 n.ledger >short.ledger
     cp n.ledger damaged.ledger
@@ -251,6 +296,8 @@ suite() { # WHAT [PART]
     fi
     if [ "$part" != first ]; then
         bringing
+        weeks
+        pages_of_tables
         damaged_ledgers
         leftovers
         standard

@@ -7,6 +7,9 @@ pub const SECONDS_PER_DAY: u64 = HOURS * SECONDS_PER_HOUR;
 pub const SECONDS_PER_HALF_HOUR: u64 = SECONDS_PER_DAY / HALF_HOURS as u64;
 pub const YEARS: u64 = 100;
 pub const MONTHS: u64 = 12;
+pub const WEEKDAYS: u64 = 7;
+pub const MINUTES_PER_DAY: usize = (HOURS * MINUTES) as usize;
+pub const MINUTES_PER_HALF_HOUR: usize = MINUTES_PER_DAY / HALF_HOURS;
 /// Days from 2000-01-01 to 2099-12-31, both included.
 pub const DAYS: u64 = days_before(YEARS);
 pub const LAST_DAY: u64 = DAYS - 1;
@@ -15,11 +18,14 @@ pub const LAST_TIME: u64 = DAYS * SECONDS_PER_DAY - 1;
 pub const DATE_DIGITS: usize = 6;
 pub const TIME_DIGITS: usize = DATE_DIGITS + SECONDS_DIGITS;
 
-const HOURS: u64 = 24;
-const MINUTES: u64 = 60;
-const SECONDS: u64 = 60;
+pub const HOURS: u64 = 24;
+/// The minutes of an hour, and the seconds of a minute.
+pub const MINUTES: u64 = 60;
+pub const SECONDS: u64 = 60;
 const SECONDS_PER_HOUR: u64 = MINUTES * SECONDS;
 const SECONDS_DIGITS: usize = 6;
+/// 2000-01-01 was a Saturday; Monday is 1.
+const FIRST_WEEKDAY: u64 = 6;
 
 /// In 2000 to 2099 every fourth year is a leap year, 2000 among them.
 const fn is_leap(year: u64) -> bool {
@@ -81,6 +87,16 @@ pub fn date(number: u64) -> (u64, u64, u64) {
 
 pub fn day_of(time: u64) -> u64 {
     time / SECONDS_PER_DAY
+}
+
+/// Monday 1 to Sunday 7.
+pub fn weekday(day: u64) -> u64 {
+    (FIRST_WEEKDAY - 1 + day) % WEEKDAYS + 1
+}
+
+/// The minute of the day in which a time lies.
+pub fn minute_of(time: u64) -> usize {
+    (time % SECONDS_PER_DAY / SECONDS) as usize
 }
 
 /// How many half-hours of a day have ended at a time.

@@ -1,17 +1,17 @@
 //! The comparer: it makes scripts, plays them here and in the other program, and
-//! compares the answers line by line and the listings byte by byte.
+//! compares the answers line by line, and the listings and the weeks drawn byte by byte.
 
-use crate::block;
-use crate::listing::{self, REFUSED};
+mod inputs;
+
+use crate::listing;
 use crate::lives::{self, Script};
-use crate::script::{self, Played, Player};
-use std::collections::{BTreeMap, BTreeSet};
+use crate::script::{self, Played};
+use crate::tariff;
+use inputs::Inputs;
 use std::io::Write;
 use std::process::{Command, Stdio};
 use std::thread;
 
-/// Blocks of one answer and one number of records that are handed to the listing command in a round.
-const BLOCKS_OF_A_KIND: usize = 25;
 /// Of a long answer so many characters are shown, from a little before the difference on.
 const SHOWN: usize = 200;
 
@@ -29,39 +29,66 @@ impl Tally {
     }
 }
 
+/// A program that reads one input and prints a text: its name, what it must print, and the command that runs it.
+struct Program<'a> {
+    name: &'static str,
+    text: fn(&[u8]) -> String,
+    command: &'a str,
+}
+
+impl Program<'_> {
+    fn listing(command: &str) -> Program<'_> {
+        Program { name: "listing", text: listing::listing, command }
+    }
+
+    fn week(command: &str) -> Program<'_> {
+        Program { name: "week", text: tariff::week_of_input, command }
+    }
+}
+
 /// Compares so many rounds; true where no difference was found.
-pub fn compare(seed: u64, rounds: u64, replay: &str, list: &str) -> bool {
+pub fn compare(seed: u64, rounds: u64, replay: &str, list: &str, week: &str) -> bool {
     let mut tally = Tally::default();
     for round in 0..rounds {
         let scripts = lives::round(seed.wrapping_add(round));
-        let mut blocks = Blocks::default();
+        let mut inputs = Inputs::default();
         for (index, script) in scripts.iter().enumerate() {
             eprintln!("round {round}, script {index} of {}: {}", scripts.len(), script.name);
             let name = format!("second-{seed}-{round}-{index}");
             compare_script(script, &name, replay, &mut tally);
-            blocks.collect(&script.text);
+            inputs.collect(&script.text);
         }
-        list_all(blocks, &format!("second-{seed}-{round}"), list, &mut tally);
+        let name = format!("second-{seed}-{round}");
+        compare_texts(&inputs.blocks(), &name, &Program::listing(list), &mut tally);
+        compare_texts(&inputs.weeks(), &name, &Program::week(week), &mut tally);
     }
     tally.told()
 }
 
 /// Compares the listings of one round's blocks alone; true where no difference was found.
 pub fn listings(seed: u64, list: &str) -> bool {
+    compare_alone(seed, Inputs::blocks, &Program::listing(list))
+}
+
+/// Compares the weeks of one round's tables alone; true where no difference was found.
+pub fn weeks(seed: u64, week: &str) -> bool {
+    compare_alone(seed, Inputs::weeks, &Program::week(week))
+}
+
+fn compare_alone(seed: u64, list: fn(&Inputs) -> Vec<Vec<u8>>, program: &Program) -> bool {
     let mut tally = Tally::default();
-    let mut blocks = Blocks::default();
+    let mut inputs = Inputs::default();
     for script in &lives::round(seed) {
-        blocks.collect(&script.text);
+        inputs.collect(&script.text);
     }
-    list_all(blocks, &format!("second-{seed}"), list, &mut tally);
+    compare_texts(&list(&inputs), &format!("second-{seed}"), program, &mut tally);
     tally.told()
 }
 
-fn list_all(blocks: Blocks, name: &str, list: &str, tally: &mut Tally) {
-    let blocks = blocks.into_list();
-    eprintln!("{name}: {} listings", blocks.len());
-    for (index, block) in blocks.iter().enumerate() {
-        compare_listing(block, &format!("{name}-listing-{index}"), list, tally);
+fn compare_texts(inputs: &[Vec<u8>], name: &str, program: &Program, tally: &mut Tally) {
+    eprintln!("{name}: {} inputs of the {} program", inputs.len(), program.name);
+    for (index, input) in inputs.iter().enumerate() {
+        compare_text(input, &format!("{name}-{}-{index}", program.name), program, tally);
     }
 }
 
@@ -177,74 +204,18 @@ fn shown(text: &str, other: &str) -> String {
     format!("[from character {from}] {part}")
 }
 
-/// The different blocks that scripts list, so many of each kind.
-#[derive(Default)]
-struct Blocks {
-    kinds: BTreeMap<String, BTreeSet<Vec<u8>>>,
-}
-
-impl Blocks {
-    fn collect(&mut self, text: &[u8]) {
-        if text.len() > script::MOST_SCRIPT_BYTES {
-            return;
-        }
-        let mut player = Player::new();
-        for (line, number) in text.split(|&byte| byte == b'\n').zip(1..) {
-            player.play_line(number, line);
-            if line == b"listing" {
-                self.add(&player.block);
-            }
-        }
-    }
-
-    fn add(&mut self, block: &[u8]) {
-        let records = block.len().saturating_sub(block::HEADER_BYTES) / block::DAY_BYTES;
-        let text = listing::listing(block);
-        let kind = text.strip_prefix(REFUSED).unwrap_or("accepted").trim_end();
-        let blocks = self.kinds.entry(format!("{kind} {records}")).or_default();
-        if blocks.len() < BLOCKS_OF_A_KIND {
-            blocks.insert(block.to_vec());
-        }
-    }
-
-    /// All of them, with inputs that no script can make.
-    fn into_list(self) -> Vec<Vec<u8>> {
-        let mut list: Vec<Vec<u8>> = self.kinds.into_values().flatten().collect();
-        let mut listed: Vec<&Vec<u8>> =
-            list.iter().filter(|block| !listing::listing(block).starts_with(REFUSED)).collect();
-        listed.sort_by_key(|block| block.len());
-        let ends: Vec<&Vec<u8>> = listed.first().into_iter().chain(listed.last()).copied().collect();
-        let followed: Vec<Vec<u8>> = ends.iter().map(|block| [block.as_slice(), b"\n"].concat()).collect();
-        list.extend(followed);
-        let lengths = [
-            0,
-            1,
-            block::HEADER_BYTES - 1,
-            block::HEADER_BYTES,
-            listing::MOST_BYTES,
-            listing::MOST_BYTES + 1,
-            block::bytes_for(block::MOST_DAYS + 1),
-            1_000_000,
-        ];
-        for length in lengths {
-            list.push(vec![0; length]);
-        }
-        list
-    }
-}
-
-fn compare_listing(block: &[u8], name: &str, list: &str, tally: &mut Tally) {
-    let expected = listing::listing(block);
-    let printed = run(list, block);
+fn compare_text(input: &[u8], name: &str, program: &Program, tally: &mut Tally) {
+    let expected = (program.text)(input);
+    let printed = run(program.command, input);
     let lines = expected.lines().count() as u64;
     if printed == expected.as_bytes() {
         tally.passed += lines;
         return;
     }
     tally.failed += 1;
-    println!("DIFFERENCE in a listing ({name}) of {} bytes", block.len());
+    println!("DIFFERENCE in a {} ({name}) of {} bytes", program.name, input.len());
     let printed = String::from_utf8_lossy(&printed).to_string();
     println!("  second:  {:?}", shown(&expected, &printed));
-    println!("  listing: {:?}", shown(&printed, &expected));
-    save(&format!("{name}.difference.block"), block);
+    println!("  printed: {:?}", shown(&printed, &expected));
+    save(&format!("{name}.difference.input"), input);
 }

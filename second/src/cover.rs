@@ -3,6 +3,9 @@
 
 mod limits;
 mod names;
+mod sides;
+mod switching;
+mod tables;
 
 use crate::answer::*;
 use crate::block::*;
@@ -15,8 +18,10 @@ use crate::script::{self, Player};
 use limits::Limits;
 use names::Names;
 use std::collections::{BTreeMap, BTreeSet};
+use switching::Switching;
+use tables::Tables;
 
-const ANSWERS: u32 = CONFLICT + 1;
+const ANSWERS: u32 = TABLE_LOADED + 1;
 
 const ANY_EVENT: &[u32] = &[DONE, WRONG_POWER, WRONG_LENGTH, DAMAGED];
 const RANGED: &[u32] = &[DONE, WRONG_POWER, WRONG_LENGTH, DAMAGED, OUT_OF_RANGE];
@@ -27,7 +32,7 @@ const ASKED_DAY: &[u32] = &[DONE, WRONG_LENGTH, DAMAGED, OUT_OF_RANGE];
 
 /// Each call and the answer numbers that the rules allow it. Opening is always lent the right
 /// length by a script, so its refusal of a wrong one can't be reached there.
-const ALLOWED: [(&str, &[u32]); 21] = [
+const ALLOWED: [(&str, &[u32]); 23] = [
     ("setup", &[DONE, WRONG_LENGTH, OUT_OF_RANGE]),
     ("count", &[DONE, WRONG_POWER, TOO_MANY_UNITS, WRONG_LENGTH, DAMAGED]),
     ("clock", TIMED),
@@ -36,9 +41,10 @@ const ALLOWED: [(&str, &[u32]); 21] = [
     ("access", ANY_EVENT),
     ("meter", ANY_EVENT),
     ("reset", ANY_EVENT),
-    ("rate", RANGED),
+    ("rate", &[DONE, WRONG_POWER, WRONG_LENGTH, DAMAGED, OUT_OF_RANGE, TABLE_LOADED]),
     ("reverse", ANY_EVENT),
     ("ppp", RANGED),
+    ("load", &[DONE, WRONG_POWER, WRONG_LENGTH, DAMAGED, OUT_OF_RANGE, TABLE_CLASH]),
     ("read", &[DONE, WRONG_POWER, WRONG_LENGTH, DAMAGED, OUT_OF_RANGE, OUTPUT_SHORT]),
     ("write", &[DONE, DAMAGED, OUTPUT_SHORT]),
     ("check", READER),
@@ -49,6 +55,7 @@ const ALLOWED: [(&str, &[u32]); 21] = [
     ("deliver", FILING),
     ("summary", ASKED_DAY),
     ("missing", ASKED_DAY),
+    ("week", &[DONE, OUT_OF_RANGE, TABLE_CLASH]),
 ];
 
 /// Clock and On.
@@ -88,7 +95,7 @@ impl Coverage {
         } else if !ALLOWED.iter().any(|(name, _)| *name == call) {
             *self.others.entry(call).or_default() += 1;
         } else {
-            let number = if call == "listing" {
+            let number = if call == "listing" || call == "week" {
                 answer.strip_prefix(REFUSED).map_or(DONE, |number| number.parse().unwrap_or(ANSWERS))
             } else {
                 answer.split(' ').next().and_then(|number| number.parse().ok()).unwrap_or(ANSWERS)
@@ -103,6 +110,31 @@ impl Coverage {
     fn count(&self, call: &str, number: u32) -> u64 {
         self.answers.get(&(call.to_string(), number)).copied().unwrap_or(0)
     }
+
+    /// Prints how often each call gave each answer; true where every allowed cell is reached and no other.
+    fn print_table(&self) -> bool {
+        print!("{:<8}", "call");
+        (0..ANSWERS).for_each(|number| print!("{number:>8}"));
+        println!("{:>8}", "?");
+        let mut right = true;
+        for (call, allowed) in ALLOWED {
+            print!("{call:<8}");
+            for number in 0..=ANSWERS {
+                let count = self.count(call, number);
+                let is_allowed = allowed.contains(&number);
+                right &= is_allowed == (count > 0);
+                match (is_allowed, count) {
+                    (true, 0) => print!("{:>8}", "MISSING"),
+                    (false, 0) if number == ANSWERS => {}
+                    (false, 0) => print!("{:>8}", "."),
+                    (true, _) => print!("{count:>8}"),
+                    (false, _) => print!("{:>8}", format!("!{count}")),
+                }
+            }
+            println!("{:>8}", self.not_understood.get(call).copied().unwrap_or(0));
+        }
+        right
+    }
 }
 
 /// What the recorder shows beside the answers.
@@ -116,6 +148,8 @@ struct Passed {
     filled: BTreeSet<(u64, u32)>,
     limits: Limits,
     names: Names,
+    tables: Tables,
+    switching: Switching,
 }
 
 impl Passed {
@@ -129,6 +163,8 @@ impl Passed {
             let answer = player.play_line(number, line).unwrap_or_default();
             self.limits.add(&before, line, &answer, &player);
             self.names.add(&before, line, &answer, &player);
+            self.tables.add(line, &answer, &player);
+            self.switching.add(&before, line, &answer, &mut player);
             let word = line.split(|&byte| byte == b' ').next().unwrap_or_default();
             if word == b"count" {
                 self.add_count(&before, line, &answer);
@@ -176,11 +212,14 @@ impl Passed {
         );
         let limits = self.limits.told();
         let names = self.names.told();
-        over == all && read == calendar::DAYS && filled == weights && limits && names
+        let tables = self.tables.told();
+        let switching = self.switching.told();
+        let told = limits && names && tables && switching;
+        over == all && read == calendar::DAYS && filled == weights && told
     }
 }
 
-/// Prints the table for a seed; true where every allowed cell is reached and no other.
+/// Prints what the scripts of a seed reach; true where that is all that it must be.
 pub fn cover(seed: u64) -> bool {
     let mut coverage = Coverage::default();
     let mut passed = Passed::default();
@@ -193,26 +232,7 @@ pub fn cover(seed: u64) -> bool {
             coverage.add(line.unwrap_or(b"(too long)"), &played.answer);
         }
     }
-    print!("{:<8}", "call");
-    (0..ANSWERS).for_each(|number| print!("{number:>8}"));
-    println!("{:>8}", "?");
-    let mut right = true;
-    for (call, allowed) in ALLOWED {
-        print!("{call:<8}");
-        for number in 0..=ANSWERS {
-            let count = coverage.count(call, number);
-            let is_allowed = allowed.contains(&number);
-            right &= is_allowed == (count > 0);
-            match (is_allowed, count) {
-                (true, 0) => print!("{:>8}", "MISSING"),
-                (false, 0) if number == ANSWERS => {}
-                (false, 0) => print!("{:>8}", "."),
-                (true, _) => print!("{count:>8}"),
-                (false, _) => print!("{:>8}", format!("!{count}")),
-            }
-        }
-        println!("{:>8}", coverage.not_understood.get(call).copied().unwrap_or(0));
-    }
+    let right = coverage.print_table();
     let others: Vec<String> = coverage.others.iter().map(|(command, count)| format!("{command} {count}")).collect();
     println!("other commands: {}", others.join(", "));
     let not_understood: u64 = coverage.not_understood.values().sum();

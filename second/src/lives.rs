@@ -2,21 +2,26 @@
 //! its next line can follow from where it stands; the seed alone decides it.
 
 mod boundaries;
+mod calls;
 mod characters;
 mod complete;
 mod conflicts;
 mod damage;
 mod dates;
+mod ends;
 mod hostile;
 mod lines;
 mod longest;
 mod names;
 mod ordinary;
 mod outages;
+mod tables;
 mod weights;
 mod writer;
 
 pub use characters::EDGES;
+#[cfg(test)]
+pub use tables::random_entries;
 pub use weights::WEIGHTS;
 
 use crate::block::{DEMAND_RESET, FLAGS, RATES};
@@ -59,7 +64,7 @@ pub struct Script {
 type Generator = fn(u64) -> Script;
 
 /// The kinds of a round, each with the number of scripts of that kind.
-const KINDS: [(Generator, u64); 45] = [
+const KINDS: [(Generator, u64); 64] = [
     (ordinary::weeks, 16),
     (ordinary::year, 1),
     (ordinary::ledgers, 3),
@@ -67,12 +72,12 @@ const KINDS: [(Generator, u64); 45] = [
     (boundaries::units, 1),
     (boundaries::run_rounds, 1),
     (boundaries::rings, 1),
-    (boundaries::calendar_ends, 1),
+    (ends::calendar, 1),
     (boundaries::starts, 1),
     (hostile::set_ups, 1),
     (hostile::pokes, 2),
     (hostile::stores, 2),
-    (hostile::calls, 4),
+    (calls::calls, 4),
     (writer::given, 2),
     (damage::blocks, 2),
     (damage::sizes, 1),
@@ -105,6 +110,25 @@ const KINDS: [(Generator, u64); 45] = [
     (names::meters, 1),
     (names::refusals, 1),
     (names::marks, 1),
+    (tables::switching::weeks, 4),
+    (tables::switching::calendar, 1),
+    (tables::switching::dates, 1),
+    (tables::switching::ranks, 1),
+    (tables::switching::orders, 1),
+    (tables::limits::bytes, 1),
+    (tables::limits::days, 1),
+    (tables::limits::numbers, 1),
+    (tables::limits::midnights, 1),
+    (tables::refused::clashes, 1),
+    (tables::refused::faults, 1),
+    (tables::refused::states, 1),
+    (tables::damaged::pokes, 1),
+    (tables::damaged::junk, 1),
+    (tables::damaged::lengths, 1),
+    (tables::drawn::weeks, 1),
+    (tables::drawn::half_hours, 1),
+    (tables::lines::garbled, 1),
+    (tables::mixed::anything, 3),
 ];
 
 /// All scripts of one round.
@@ -291,8 +315,8 @@ fn with_ppp(ppp: &str) -> String {
     format!("{ppp}{}", &IDENTIFIER[PPP_LENGTH..])
 }
 
-/// The ten events at their plainest, at a present time.
-fn plain_events(time: u64, last: u32) -> [String; 10] {
+/// The eleven events at their plainest, at a present time; the load last, since Rate is refused after it.
+fn plain_events(time: u64, last: u32) -> [String; 11] {
     [
         format!("count {last}"),
         format!("clock @{time}"),
@@ -304,5 +328,6 @@ fn plain_events(time: u64, last: u32) -> [String; 10] {
         "rate 3".to_string(),
         "reverse".to_string(),
         "ppp Z9z".to_string(),
+        "load".to_string(),
     ]
 }

@@ -16,6 +16,7 @@ mod quantities;
 mod random;
 mod recorder;
 mod script;
+mod tariff;
 #[cfg(test)]
 mod tests;
 
@@ -26,14 +27,18 @@ use std::process::ExitCode;
 const HELP: &str = "\
 second play                                  plays the script on standard input and prints its answers
 second list                                  lists the block on standard input
+second week                                  draws a week of the table on standard input, behind its day and a newline
 second make SEED DIR COUNT                   writes COUNT scripts of all kinds as DIR/NNN.script
-second compare SEED ROUNDS REPLAY LISTING    plays scripts here and by the command REPLAY, lists blocks here
-                                             and by the command LISTING, and prints where they differ
+second compare SEED ROUNDS REPLAY LISTING WEEK
+                                             plays scripts here and by the command REPLAY, lists blocks here and by the
+                                             command LISTING, draws weeks here and by the command WEEK, and prints
+                                             where they differ
 second listings SEED LISTING                 lists the blocks of one round here and by the command LISTING
+second weeks SEED WEEK                       draws the weeks of one round here and by the command WEEK
 second cover SEED                            prints how often each call gives each answer in one round
 second --help                                prints this
 
-SEED, ROUNDS and COUNT are whole numbers. REPLAY and LISTING are run by sh. The exit status is 0 where all is well,
+SEED, ROUNDS and COUNT are whole numbers. REPLAY, LISTING and WEEK are run by sh. The exit status is 0 where all is well,
 1 where a difference or a gap was found, 2 where the command was not understood.
 ";
 
@@ -59,11 +64,13 @@ fn command(words: &[&str]) -> Option<io::Result<bool>> {
     match words {
         ["play"] => Some(play()),
         ["list"] => Some(list()),
+        ["week"] => Some(week()),
         ["make", seed, folder, count] => Some(make(seed.parse().ok()?, folder, count.parse().ok()?)),
-        ["compare", seed, rounds, replay, listing] => {
-            Some(Ok(compare::compare(seed.parse().ok()?, rounds.parse().ok()?, replay, listing)))
+        ["compare", seed, rounds, replay, listing, week] => {
+            Some(Ok(compare::compare(seed.parse().ok()?, rounds.parse().ok()?, replay, listing, week)))
         }
         ["listings", seed, listing] => Some(Ok(compare::listings(seed.parse().ok()?, listing))),
+        ["weeks", seed, week] => Some(Ok(compare::weeks(seed.parse().ok()?, week))),
         ["cover", seed] => Some(Ok(cover::cover(seed.parse().ok()?))),
         ["--help"] => Some(io::stdout().write_all(HELP.as_bytes()).map(|()| true)),
         _ => None,
@@ -87,6 +94,11 @@ fn play() -> io::Result<bool> {
 
 fn list() -> io::Result<bool> {
     io::stdout().write_all(listing::listing(&input()?).as_bytes())?;
+    Ok(true)
+}
+
+fn week() -> io::Result<bool> {
+    io::stdout().write_all(tariff::week_of_input(&input()?).as_bytes())?;
     Ok(true)
 }
 

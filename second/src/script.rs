@@ -1,9 +1,11 @@
 //! An interpreter of docs/REPLAY.md: it plays a script line by line and answers
 //! each line with the text that the proved program must print.
 
+mod editor;
 mod fields;
 mod words;
 
+pub use editor::{LATEST_TIME, MOST_TABLE_BYTES};
 use words::*;
 pub use words::{MOST_DIGITS, MOST_NUMBER};
 
@@ -13,6 +15,7 @@ use crate::identifier::Identifier;
 use crate::ledger;
 use crate::listing;
 use crate::recorder::{self, Class, Event, Recorder, SetUp, Store, StoreLength, BLANK};
+use crate::tariff::TABLE_BYTES;
 
 /// Of a longer script nothing is played.
 pub const MOST_SCRIPT_BYTES: usize = 2_000_000;
@@ -28,6 +31,11 @@ pub struct Player {
     pub lent: StoreLength,
     /// A `lend V S M` stands.
     lend_stands: bool,
+    /// The table's room, with the byte more that can be lent, and how much of it is lent.
+    room: Vec<u8>,
+    pub room_lent: usize,
+    /// The editor's table.
+    pub edited: Vec<u8>,
     pub block: Vec<u8>,
     kept: Vec<Vec<u8>>,
     pub ledger: Vec<u8>,
@@ -65,6 +73,9 @@ impl Player {
             marks: vec![0; LONGEST_STORE.marks],
             lent: StoreLength::default(),
             lend_stands: false,
+            room: vec![0; MOST_TABLE_BYTES],
+            room_lent: TABLE_BYTES,
+            edited: vec![0; TABLE_BYTES],
             block: Vec::new(),
             kept: vec![Vec::new(); KEPT_BLOCKS],
             ledger: Vec::new(),
@@ -90,6 +101,21 @@ impl Player {
             [b"read", n, room] => self.read(number_u32(n)?, number_up_to(room, block::MOST_BYTES)?),
             [b"day", d] => self.show_day(day(d)?),
             [b"show"] => Some(self.show()),
+            [b"fields"] => self.fields(),
+            [b"given", rest @ ..] => self.give(rest),
+            [b"write", room] => self.write(number_up_to(room, block::MOST_BYTES)?),
+            [b"lend", rest @ ..] => self.lend_lengths(rest),
+            [b"poke", rest @ ..] => self.poke(rest),
+            _ => match event(words) {
+                Some(event) => self.step(event),
+                None => self.obey_block(words).or_else(|| self.obey_ledger(words)).or_else(|| self.edit(words)),
+            },
+        }
+    }
+
+    /// A command about the current block and those kept.
+    fn obey_block(&mut self, words: &[Word]) -> Option<String> {
+        match words {
             [b"block"] => Some(print_hexadecimal(&self.block)),
             [b"hex", bytes] => self.hex(bytes),
             [b"byte", at, n] => {
@@ -114,16 +140,12 @@ impl Player {
                 print_done(self.block.len())
             }
             [b"listing"] => Some(listing::listing(&self.block).trim_end().to_string()),
-            [b"fields"] => self.fields(),
-            [b"given", rest @ ..] => self.give(rest),
-            [b"write", room] => {
-                let room = number_up_to(room, block::MOST_BYTES)?;
-                let days = usize::try_from(self.given.days).unwrap_or(usize::MAX);
-                let days = self.given_days.get(..days).unwrap_or(&self.given_days);
-                let mut output = vec![0; room];
-                let answer = block::write(&self.given, days, &mut output);
-                self.take_output(answer, output)
-            }
+            _ => None,
+        }
+    }
+
+    fn obey_ledger(&mut self, words: &[Word]) -> Option<String> {
+        match words {
             [b"open", id, d, n] => self.open(&identifier(id)?, day(d)?, number_u32(n)?),
             [b"file"] => print(ledger::file(&mut self.ledger, &self.block)),
             [b"deliver", k] => {
@@ -132,44 +154,41 @@ impl Player {
             }
             [b"summary", d] => {
                 let s = ledger::summary(&self.ledger, day(d)?);
-                Some(format!(
-                    "{} {} {} {} {} {} {}",
-                    s.answer,
-                    u8::from(s.held),
-                    s.half_hours,
-                    s.start,
-                    s.sum,
-                    s.reverse,
-                    s.level2
-                ))
+                let (answer, held) = (s.answer, u8::from(s.held));
+                Some(format!("{answer} {held} {} {} {} {} {}", s.half_hours, s.start, s.sum, s.reverse, s.level2))
             }
             [b"missing", d] => {
                 let m = ledger::missing(&self.ledger, day(d)?);
                 Some(format!("{} {} {}", m.answer, m.first, m.count))
             }
             [b"ledger"] => Some(print_hexadecimal(&self.ledger)),
-            [b"lend"] => {
+            _ => None,
+        }
+    }
+
+    fn lend_lengths(&mut self, words: &[Word]) -> Option<String> {
+        match words {
+            [] => {
                 self.lend_stands = false;
                 self.lent = self.recorder.class.map(Class::store_length).unwrap_or_default();
-                print_done(0)
+                self.room_lent = TABLE_BYTES;
             }
-            [b"lend", b"ledger", n] => {
+            [b"table", n] => self.room_lent = number_up_to(n, MOST_TABLE_BYTES)?,
+            [b"ledger", n] => {
                 let n = number_up_to(n, ledger::MOST_BYTES)?;
                 self.ledger.resize(n, 0);
-                print_done(0)
             }
-            [b"lend", v, s, m] => {
+            [v, s, m] => {
                 self.lent = StoreLength {
                     values: number_up_to(v, LONGEST_STORE.values)?,
                     starts: number_up_to(s, LONGEST_STORE.starts)?,
                     marks: number_up_to(m, LONGEST_STORE.marks)?,
                 };
                 self.lend_stands = true;
-                print_done(0)
             }
-            [b"poke", rest @ ..] => self.poke(rest),
-            _ => self.step(event(words)?),
+            _ => return None,
         }
+        print_done(0)
     }
 
     /// The recorder beside the store as it is lent.
@@ -178,8 +197,14 @@ impl Player {
             values: self.values.get_mut(..self.lent.values).unwrap_or_default(),
             starts: self.starts.get_mut(..self.lent.starts).unwrap_or_default(),
             marks: self.marks.get_mut(..self.lent.marks).unwrap_or_default(),
+            table: self.room.get_mut(..self.room_lent).unwrap_or_default(),
         };
         (&mut self.recorder, store)
+    }
+
+    /// The table's room as it is lent.
+    pub fn room(&mut self) -> &[u8] {
+        self.lend().1.table
     }
 
     fn set_up(&mut self, words: &[Word]) -> Option<String> {
@@ -214,6 +239,14 @@ impl Player {
         let mut output = vec![0; room];
         let (recorder, store) = self.lend();
         let answer = recorder.read(asked, &store, &mut output);
+        self.take_output(answer, output)
+    }
+
+    fn write(&mut self, room: usize) -> Option<String> {
+        let days = usize::try_from(self.given.days).unwrap_or(usize::MAX);
+        let days = self.given_days.get(..days).unwrap_or(&self.given_days);
+        let mut output = vec![0; room];
+        let answer = block::write(&self.given, days, &mut output);
         self.take_output(answer, output)
     }
 
@@ -259,6 +292,7 @@ impl Player {
             r.base,
             u64::from(r.reverse),
             u64::from(r.level2),
+            u64::from(r.loaded),
         ]);
         numbers.iter().map(u64::to_string).collect::<Vec<String>>().join(" ")
     }

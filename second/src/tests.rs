@@ -7,6 +7,8 @@ mod history;
 mod hold;
 mod names;
 mod order;
+mod switching;
+mod tariff;
 mod weights;
 
 use crate::answer::{Answer, DAMAGED, OUT_OF_RANGE, TOO_MANY_UNITS, WRONG_LENGTH, WRONG_POWER, WRONG_TIME};
@@ -17,6 +19,7 @@ use crate::ledger;
 use crate::listing;
 use crate::recorder::{self, Class, Event, Recorder, SetUp, Store, StoreLength, BLANK};
 use crate::script::{self, Player};
+use crate::tariff::TABLE_BYTES;
 
 const IDENTIFIER: Identifier = *b"ABCX24000017";
 
@@ -26,9 +29,16 @@ struct Outstation {
     values: Vec<u16>,
     starts: Vec<u32>,
     marks: Vec<u64>,
+    table: Vec<u8>,
 }
 
 impl Outstation {
+    /// The recorder and all that is lent to it.
+    fn lend(&mut self) -> (Recorder, Store<'_>) {
+        let Outstation { recorder, values, starts, marks, table } = self;
+        (*recorder, Store { values, starts, marks, table })
+    }
+
     fn new(class: Class, weight: u64, time: &str, total: u64, counter: u32) -> Outstation {
         let length = class.store_length();
         let mut outstation = Outstation {
@@ -36,19 +46,18 @@ impl Outstation {
             values: vec![7; length.values],
             starts: vec![7; length.starts],
             marks: vec![7; length.marks],
+            table: vec![7; TABLE_BYTES],
         };
         let given = SetUp { identifier: IDENTIFIER, class: Some(class), weight, time: at(time), total, counter };
-        let mut store =
-            Store { values: &mut outstation.values, starts: &mut outstation.starts, marks: &mut outstation.marks };
-        let (recorder, answer) = recorder::set_up(&given, &mut store);
+        let (recorder, answer) = recorder::set_up(&given, &mut outstation.lend().1);
         assert_eq!(answer, Answer::done(0));
         outstation.recorder = recorder;
         outstation
     }
 
     fn event(&mut self, event: Event) -> u32 {
-        let mut store = Store { values: &mut self.values, starts: &mut self.starts, marks: &mut self.marks };
-        let (recorder, answer) = self.recorder.step(event, &mut store);
+        let (recorder, mut store) = self.lend();
+        let (recorder, answer) = recorder.step(event, &mut store);
         self.recorder = recorder;
         assert_eq!(answer.carried, 0);
         answer.number
@@ -57,13 +66,13 @@ impl Outstation {
     fn day(&mut self, date: &str) -> Day {
         let day = calendar::read_date(date.as_bytes()).unwrap();
         let room = self.recorder.class.unwrap().room(day);
-        Store { values: &mut self.values, starts: &mut self.starts, marks: &mut self.marks }.day(room).unwrap()
+        self.lend().1.day(room).unwrap()
     }
 
     fn read(&mut self, asked: u32) -> Vec<u8> {
         let mut output = vec![0xaa; block::MOST_BYTES];
-        let store = Store { values: &mut self.values, starts: &mut self.starts, marks: &mut self.marks };
-        let answer = self.recorder.read(asked, &store, &mut output);
+        let (recorder, store) = self.lend();
+        let answer = recorder.read(asked, &store, &mut output);
         assert_eq!(answer.number, 0);
         assert!(output[answer.carried as usize..].iter().all(|&byte| byte == 0xaa));
         output.truncate(answer.carried as usize);

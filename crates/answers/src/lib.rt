@@ -34,3 +34,9 @@ pub const OTHER_METER: u32 = 11;
 
 // Something else is held already.
 pub const DIFFERS: u32 = 12;
+
+// Two entries of a switching table that cover the same day, or switch at the same time.
+pub const CLASH: u32 = 14;
+
+// A Rate while a switching table is loaded.
+pub const LOADED: u32 = 15;

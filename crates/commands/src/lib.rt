@@ -8,7 +8,7 @@ use script::names;
 // A command: what it is, the fewest and the most words behind its name, what the first of them is, and the largest that the first three numbers may be.
 struct Command(u64, usize, usize, u64, u64, u64, u64);
 
-// ---- what a command is, by what it may change: nothing, recorder and store or the given fields, blocks out of these or into them, blocks, the ledger
+// ---- what a command is, by what it may change: nothing, outstation and store or the given fields, blocks out of these or into them, blocks, the ledger, an editor's table
 
 pub const NOTHING: u64 = 0;
 
@@ -23,6 +23,10 @@ pub const SENT: u64 = 4;
 pub const BLOCK: u64 = 5;
 
 pub const LEDGER: u64 = 6;
+
+pub const EDITOR: u64 = 7;
+
+pub const TABLE_SHOWN: u64 = 8;
 
 // ---- what its first number is: the number in a word, the day, the time, a name; behind an identifier a day, or all that a set-up has; PPP, as a name
 
@@ -64,6 +68,15 @@ const MARKS: u64 = memory::MARKS as u64;
 
 const LEDGERS: u64 = ledger::LONGEST as u64;
 
+const TABLES: u64 = memory::TABLE as u64;
+
+const LAST_SLOT: u64 = tariff::SLOTS as u64 - 1;
+
+// hhmm with an hour that is a byte, and YYMMDD.
+const CLOCKS: u64 = 100 * script::limits::MOST_BYTE + 99;
+
+const DATES: u64 = 999999;
+
 // The table.
 fn named(name: u64) -> Command {
     match name {
@@ -88,24 +101,49 @@ fn named(name: u64) -> Command {
         names::OPEN => Command(LEDGER, 3, 3, ID_DAY, SMALL, SMALL, ANY),
         names::FILE => Command(LEDGER, 0, 0, NUMBER, ANY, ANY, ANY),
         names::DELIVER => Command(LEDGER, 1, 1, NUMBER, SHELF, ANY, ANY),
+        names::LOAD => Command(METER, 0, 1, NUMBER, TABLES, ANY, ANY),
+        names::LEND_TABLE => Command(METER, 2, 2, NAME, ANY, TABLES, ANY),
+        names::POKE_TABLE => Command(METER, 3, 3, NAME, ANY, LARGE, BYTE),
         names::LEND_LEDGER => Command(LEDGER, 2, 2, NAME, ANY, LEDGERS, ANY),
         names::POKE_LEDGER => Command(LEDGER, 3, 3, NAME, ANY, LARGE, BYTE),
         names::SHOW | names::BLOCK | names::CHECK | names::LISTING | names::LEDGER => {
             Command(SHOWN, 0, 0, NUMBER, ANY, ANY, ANY)
         }
         names::SUMMARY | names::MISSING => Command(SHOWN, 1, 1, DAY, SMALL, ANY, ANY),
+        _ => of_table(name),
+    }
+}
+
+// The commands of the switching table.
+fn of_table(name: u64) -> Command {
+    match name {
+        names::BLANK => Command(EDITOR, 0, 0, NUMBER, ANY, ANY, ANY),
+        names::AT => Command(EDITOR, 3, 3, NUMBER, BYTE, CLOCKS, BYTE),
+        names::EXCEPT => Command(EDITOR, 2, 2, NUMBER, BYTE, DATES, ANY),
+        names::WEEKDAYS => Command(EDITOR, 3, 3, NUMBER, BYTE, BYTE, BYTE),
+        names::DEFAULT => Command(EDITOR, 1, 1, NUMBER, BYTE, ANY, ANY),
+        names::SLOT => Command(EDITOR, 6, 6, NUMBER, LAST_SLOT, BYTE, BYTE),
+        names::SWAP => Command(EDITOR, 2, 2, NUMBER, LAST_SLOT, LAST_SLOT, ANY),
+        names::TABLE => Command(TABLE_SHOWN, 0, 0, NUMBER, ANY, ANY, ANY),
+        names::RATEAT => Command(TABLE_SHOWN, 1, 2, TIME, LARGE, ANY, ANY),
+        names::WEEK => Command(TABLE_SHOWN, 1, 1, DAY, SMALL, ANY, ANY),
         _ => Command(NOTHING, 0, 0, NUMBER, ANY, ANY, ANY),
     }
 }
 
-// The name of a command by its first two words: `lend ledger` and `poke ledger` have names of their own.
+// The name of a command by its first two words: `lend ledger`, `poke table` and the like have names of their own.
 fn joined(first: u64, second: u64) -> u64 {
-    if second != names::LEDGER {
-        return first;
+    match second {
+        names::LEDGER => one_of(first, names::LEND_LEDGER, names::POKE_LEDGER),
+        names::TABLE => one_of(first, names::LEND_TABLE, names::POKE_TABLE),
+        _ => first,
     }
+}
+
+fn one_of(first: u64, lent: u64, poked: u64) -> u64 {
     match first {
-        names::LEND => names::LEND_LEDGER,
-        names::POKE => names::POKE_LEDGER,
+        names::LEND => lent,
+        names::POKE => poked,
         _ => first,
     }
 }

@@ -29,6 +29,10 @@ use Rattle.filing.specs.Differs.{differsOf}
 use Rattle.desk.specs.Numbers.{answerPlace, oneNumber, answerIn, carriedIn, firstAndCount, missingNumber, flagsNumber, windowNumber, noDay, dayOrNone}
 use Rattle.format.specs.Identifier.{letterOf}
 use Rattle.desk.specs.Given.{giveRow, giveFound, Gives, headerRow, giveHeader, differenceRow, giveDiffers, giveIdentifier, summaryRow, giveSummary, halfNumber, giveHalves}
+use Rattle.desk.specs.Tables.{rateJudged, rateNumber, giveWeek}
+use Rattle.tariff.specs.Rate.{rateAt}
+use Rattle.drawn.specs.Week.{weekText}
+use Rattle.drawn.specs.Asked.{weekJudged}
 
 pub apart : (a c : ℕ) → c < answerPlace → (answerIn (oneNumber a c) ≡ a) × (carriedIn (oneNumber a c) ≡ c)
 apart a c h = (omega arith, omega arith)
@@ -72,7 +76,15 @@ pub halves-gives : (l : List ℕ) (d : ℕ) (out : List ℕ)
 unfolding giveHalves
 halves-gives l d out = row-gives out (table halvesOfDay (halfNumber (slot l (d - firstOf l)))) (asked l d) (count (slot l (d - firstOf l)))
 
+pub week-gives : (l : List ℕ) (d : ℕ) (out : List ℕ) → Gives (giveWeek l d out) out (answer (weekJudged l d) 0) (weekText l d) (length (weekText l d))
+unfolding giveWeek
+week-gives l d out = row-gives out (weekText l d) (weekJudged l d) (length (weekText l d))
+
 -- ---- questions that are answered by a number alone
+
+pub rate-number : (l : List ℕ) (t : ℕ) → rateNumber l t ≡ oneNumber (rateJudged l t) (cond (eqb (rateJudged l t) 0) (rateAt l t) 0)
+unfolding rateNumber
+rate-number l t = by-test (eqb (rateJudged l t) 0) (λ e. rw (e, eqb-true (rateJudged l t) 0 e)) (λ e. rw e)
 
 pub flags-number : (l : List ℕ) (d : ℕ) → flagsNumber l d ≡ oneNumber (asked l d) (cond (eqb (asked l d) 0) (flagsOf (slot l (d - firstOf l))) 0)
 unfolding flagsNumber

@@ -16,9 +16,9 @@ pub const MARKS: usize = marks::DAY_WORDS * STORE_DAYS;
 // How many blocks are kept.
 pub const SHELVES: usize = 32;
 
-// ---- places in the row: the recorder's numbers are first, as `rows` has them, then a header's for the given fields
+// ---- places in the row: the outstation's numbers are first, as `station` has them, then a header's for the given fields
 
-pub const GIVEN: usize = rows::NUMBERS;
+pub const GIVEN: usize = station::LOADED + 1;
 
 pub const HEAD_DAYS: usize = GIVEN + desk::HEAD_DAYS;
 
@@ -40,9 +40,14 @@ pub const CURRENT_BLOCK: usize = BLOCK + SHELVES;
 
 pub const LEDGER: usize = CURRENT_BLOCK + 1;
 
+// How the room of the switching table is lent: whole, or, where a `lend table N` stands, by its length.
+pub const TABLE_STANDS: usize = LEDGER + 1;
+
+pub const LENT_TABLE: usize = TABLE_STANDS + 1;
+
 // ---- places behind the row: the store's days are first, then the given ones
 
-pub const VALUE: usize = LEDGER + 1;
+pub const VALUE: usize = LENT_TABLE + 1;
 
 pub const GIVEN_VALUE: usize = VALUE + VALUES;
 
@@ -80,6 +85,11 @@ pub const BLOCKS: usize = SHELF * (SHELVES + 1);
 pub type Blocks = [u8; BLOCKS];
 
 pub type Ledger = [u8; ledger::LONGEST];
+
+// A switching table, and one byte more, to lend too many.
+pub const TABLE: usize = tariff::TABLE + 1;
+
+pub type Table = [u8; TABLE];
 
 // ---- numbers by their places
 
@@ -150,24 +160,38 @@ pub struct Lent {
     pub values: usize,
     pub starts: usize,
     pub marks: usize,
+    pub table: usize,
 }
 
-fn lent_for(class: Class) -> Lent {
+fn lent_for(class: Class, table: usize) -> Lent {
     Lent {
         values: class.values_len(),
         starts: class.starts_len(),
         marks: class.marks_len(),
+        table: table,
     }
+}
+
+// How much of the table's room is lent.
+pub fn lent_table(row: &Row) -> usize {
+    if number(row, TABLE_STANDS) == 0 {
+        return tariff::TABLE;
+    }
+    length(row, LENT_TABLE)
 }
 
 pub fn lent_store(row: &Row) -> Lent {
     if number(row, STANDS) == 0 {
-        return lent_for(rows::class_numbered(number(row, LENT_CLASS)));
+        return lent_for(
+            rows::class_numbered(number(row, LENT_CLASS)),
+            lent_table(row),
+        );
     }
     Lent {
         values: length(row, LENT_VALUES),
         starts: length(row, LENT_STARTS),
         marks: length(row, LENT_MARKS),
+        table: lent_table(row),
     }
 }
 

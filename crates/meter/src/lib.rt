@@ -1,4 +1,4 @@
-// A script's recorder and its store: how they are lent, a set-up, the events, and what is changed by hand, there and in the given fields. Every function takes any
+// A script's outstation, its store and the room of its switching table: how they are lent, a set-up, the events, and what is changed by hand, there and in the given fields. Every function takes any
 // line and any memory, and answers one number, as the library for C does, NONE for a line that is not understood.
 mod places;
 
@@ -6,16 +6,19 @@ use memory::Lent;
 use memory::Marks;
 use memory::Row;
 use memory::Starts;
+use memory::Table;
 use memory::Values;
+use outstation::Happening;
 use recorder::Event;
 use script::Said;
 use script::names;
 
 // ---- how the store is lent
 
-// `lend`: as the recorder's class has it.
+// `lend`: as the recorder's class has it, and the whole room of the table.
 fn lend_again(row: &mut Row) -> u64 {
     let class = memory::number(row, rows::CLASS);
+    memory::put(row, memory::TABLE_STANDS, 0);
     memory::put(row, memory::LENT_CLASS, class);
     memory::put(row, memory::STANDS, 0)
 }
@@ -35,6 +38,12 @@ fn lend(said: Said, row: &mut Row) -> u64 {
         3 => lend_these(said.a, said.b, said.c, row),
         _ => script::NONE,
     }
+}
+
+// `lend table N`.
+fn lend_table(n: u64, row: &mut Row) -> u64 {
+    memory::put(row, memory::LENT_TABLE, n);
+    memory::put(row, memory::TABLE_STANDS, 1)
 }
 
 // ---- a set-up or an event, with the store as it is lent
@@ -60,12 +69,14 @@ fn set_up(
     values: &mut [u16],
     starts: &mut [u32],
     marks: &mut [u64],
+    table: &mut [u8],
 ) -> u64 {
     station::set_up(
         row,
         memory::first16(values, lent.values),
         memory::first32(starts, lent.starts),
         memory::part64(marks, 0, lent.marks),
+        memory::part8(table, 0, lent.table),
     )
 }
 
@@ -76,9 +87,10 @@ fn begin(
     values: &mut Values,
     starts: &mut Starts,
     marks: &mut Marks,
+    table: &mut Table,
 ) -> u64 {
     keep_start(said, script::word(line, 1), row);
-    set_up(memory::lent_store(row), row, values, starts, marks)
+    set_up(memory::lent_store(row), row, values, starts, marks, table)
 }
 
 // PPP as the number of its bytes.
@@ -105,33 +117,62 @@ fn event(name: u64, n: u64) -> Event {
     }
 }
 
-fn step(
-    event: Event,
+fn happens(
+    what: Happening,
+    offered: &[u8],
     lent: Lent,
     row: &mut [u64],
     values: &mut [u16],
     starts: &mut [u32],
     marks: &mut [u64],
+    table: &mut [u8],
 ) -> u64 {
-    station::step(
+    station::happens(
         row,
-        event,
+        what,
+        offered,
         memory::first16(values, lent.values),
         memory::first32(starts, lent.starts),
         memory::part64(marks, 0, lent.marks),
+        memory::part8(table, 0, lent.table),
     )
 }
 
+fn happening(name: u64, n: u64) -> Happening {
+    if name == names::LOAD {
+        return Happening::Load;
+    }
+    Happening::Of(event(name, n))
+}
+
+// How much of the editor's table is offered: all of it, or so many bytes.
+fn offered_length(said: Said) -> usize {
+    if said.n == 0 {
+        return tariff::TABLE;
+    }
+    said.a as usize
+}
+
 fn act(
-    name: u64,
-    n: u64,
+    said: Said,
     row: &mut Row,
     values: &mut Values,
     starts: &mut Starts,
     marks: &mut Marks,
+    table: &mut Table,
+    editor: &Table,
 ) -> u64 {
     let lent = memory::lent_store(row);
-    step(event(name, n), lent, row, values, starts, marks)
+    happens(
+        happening(said.name, said.a),
+        parts::part8(editor, 0, offered_length(said)),
+        lent,
+        row,
+        values,
+        starts,
+        marks,
+        table,
+    )
 }
 
 // ---- `poke` and `given`
@@ -173,7 +214,12 @@ fn change(
     memory::put_at(at, places::last(said), row, values, starts, marks)
 }
 
-// What a line answers that changes recorder, store or given fields.
+// Byte I of the room, as it is lent.
+fn poke_table(i: u64, b: u64, lent: usize, table: &mut [u8]) -> u64 {
+    memory::put_byte(memory::part8(table, 0, lent), i as usize, b)
+}
+
+// What a line answers that changes outstation, store, the table's room or given fields.
 pub fn answered(
     said: Said,
     line: &[u8],
@@ -181,12 +227,16 @@ pub fn answered(
     values: &mut Values,
     starts: &mut Starts,
     marks: &mut Marks,
+    table: &mut Table,
+    editor: &Table,
 ) -> u64 {
     let name = said.name;
     match name {
         names::LEND => lend(said, row),
-        names::SETUP => begin(said, line, row, values, starts, marks),
+        names::LEND_TABLE => lend_table(said.b, row),
+        names::SETUP => begin(said, line, row, values, starts, marks, table),
+        names::POKE_TABLE => poke_table(said.b, said.c, memory::lent_table(row), table),
         names::POKE | names::GIVEN => change(said, row, values, starts, marks),
-        _ => act(name, said.a, row, values, starts, marks),
+        _ => act(said, row, values, starts, marks, table, editor),
     }
 }

@@ -129,6 +129,7 @@ fn poked(name: u64) -> Field {
         names::BASE => Field(rows::BASE, ONE, SMALL),
         names::REVERSE => Field(rows::REVERSE, ONE, BIT),
         names::LEVEL2 => Field(rows::LEVEL2, ONE, BIT),
+        names::LOADED => Field(station::LOADED, ONE, BIT),
         names::VALUE => Field(memory::VALUE, VALUES, SHORT),
         names::START => Field(memory::START, STARTS, SMALL),
         names::MARK => Field(memory::MARK, MARKS, LARGE),

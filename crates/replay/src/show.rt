@@ -1,18 +1,19 @@
-// What a line shows and does not change: a recorder and a room of its store in decimal, a block, the ledger.
+// What a line shows and does not change: a recorder and a room of its store in decimal, a block, the ledger, a switching table.
 use memory::Blocks;
 use memory::Ledger;
 use memory::Lent;
 use memory::Marks;
 use memory::Row;
 use memory::Starts;
+use memory::Table;
 use memory::Values;
 use script::Said;
 use script::names;
 
-// How many numbers are behind the class.
-const BEHIND: usize = rows::NUMBERS - rows::WEIGHT;
+// How many numbers are behind the class, the last of them whether a table is loaded.
+const BEHIND: usize = station::LOADED + 1 - rows::WEIGHT;
 
-// The recorder's row but for its letters.
+// The outstation's row but for its letters.
 fn recorder(row: &Row) -> bool {
     printed::number(memory::number(row, rows::CLASS));
     printed::then_all(parts::part64(row, rows::WEIGHT, BEHIND));
@@ -105,5 +106,38 @@ pub fn shown(said: Said, row: &Row, blocks: &Blocks, ledger: &Ledger) -> bool {
             shelves::book::lent(row, ledger),
         ),
         _ => of_block(name, shelves::current(row, blocks)),
+    }
+}
+
+// ---- a switching table
+
+fn rate(table: &[u8], time: u64) -> bool {
+    printed::answer(tariff::rate_at(table, time) as u64)
+}
+
+// The week drawn, or why it is refused.
+fn week(table: &[u8], day: u32) -> bool {
+    let mut out = [0u8; drawn::LONGEST_WEEK];
+    let answer = drawn::week(table, day, &mut out);
+    if answer.number == answers::DONE {
+        printed::text(parts::part8(&out, 0, answer.carried as usize));
+        return true;
+    }
+    let n = lines::refused(&mut out, answer.number);
+    printed::text(parts::part8(&out, 0, n));
+    true
+}
+
+// The room of the table, as it is lent, or the editor's table drawn.
+pub fn of_table(said: Said, row: &Row, table: &Table, editor: &Table) -> bool {
+    let lent = parts::part8(table, 0, memory::lent_table(row));
+    let name = said.name;
+    match name {
+        names::TABLE => printed::hex(lent),
+        names::RATEAT => rate(lent, said.a),
+        _ => week(
+            parts::part8(editor, 0, tariff::TABLE),
+            memory::narrow(said.a),
+        ),
     }
 }

@@ -66,11 +66,15 @@ pub const LEND: u64 = 0x6c656e64;
 
 pub const POKE: u64 = 0x706f6b65;
 
-// `lend ledger` and `poke ledger`, as far as eight letters go: no one word has a space.
+// `lend ledger` and the like, as far as eight letters go: no one word has a space.
 
 pub const LEND_LEDGER: u64 = 0x6c656e64206c6564;
 
 pub const POKE_LEDGER: u64 = 0x706f6b65206c6564;
+
+pub const LEND_TABLE: u64 = 0x6c656e6420746162;
+
+pub const POKE_TABLE: u64 = 0x706f6b6520746162;
 
 pub const CLASS: u64 = 0x636c617373;
 
@@ -113,3 +117,29 @@ pub const KWH: u64 = 0x6b7768;
 pub const FLAGS: u64 = 0x666c616773;
 
 pub const REVERSED: u64 = 0x7265766572736564;
+
+// The tariff switching table's.
+
+pub const BLANK: u64 = 0x626c616e6b;
+
+pub const AT: u64 = 0x6174;
+
+pub const EXCEPT: u64 = 0x657863657074;
+
+pub const WEEKDAYS: u64 = 0x7765656b64617973;
+
+pub const DEFAULT: u64 = 0x64656661756c74;
+
+pub const SLOT: u64 = 0x736c6f74;
+
+pub const SWAP: u64 = 0x73776170;
+
+pub const LOAD: u64 = 0x6c6f6164;
+
+pub const TABLE: u64 = 0x7461626c65;
+
+pub const RATEAT: u64 = 0x726174656174;
+
+pub const WEEK: u64 = 0x7765656b;
+
+pub const LOADED: u64 = 0x6c6f61646564;

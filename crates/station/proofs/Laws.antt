@@ -1,40 +1,58 @@
 -- What each return says.
 -- Assumes nothing.
-use Prim.Native.Nat.{ℕ}
-use mathlib.Core.Path.{_≡_, ap}
+use Prim.Native.Nat.{ℕ, _≤_}
+use mathlib.Core.Path.{_≡_, sym, ap, _∙_}
+use mathlib.Core.Bool.{Bool, false}
 use mathlib.Core.List.{List}
+use lib.ListN.{length, set, List·getD-eq-default}
+use lib.Seq.{set-out}
+use Rattle.laws.specs.Bits.{bit}
 use Rattle.store.specs.Store.{store}
 use Rattle.block.specs.declared.Answer.{Answer}
 use Rattle.block.specs.declared.Header.{Header}
-use Rattle.recorder.specs.declared.Event.{Event}
 use Rattle.recorder.specs.declared.Recorder.{Recorder}
 use Rattle.recorder.specs.declared.Stepped.{Stepped}
 use Rattle.recorder.specs.Recorder.{mem}
-use Rattle.recorder.specs.SetUp.{setUp}
 use Rattle.recorder.specs.SetUp.{given as setUpWith}
-use Rattle.recorder.specs.Step.{Done, done, step}
+use Rattle.outstation.specs.declared.Outstation.{Outstation}
+use Rattle.outstation.specs.declared.Answered.{Answered}
+use Rattle.outstation.specs.Outstation.{site, Happening, Done, done, happens}
+use Rattle.outstation.specs.SetUp.{setUpSite}
 use Rattle.writer.specs.Send.{sent, writeOf}
 use Rattle.readout.specs.Read.{ReadDone, readDone, readBack}
 use Rattle.desk.specs.Given.{given}
 use Rattle.desk.specs.Numbers.{oneNumber}
 use Rattle.rows.specs.Rows.{putRow, recorderRow, recorderFrom, headerFrom}
-use Rattle.station.specs.Station.{left, leftIn, setUpIn, stepIn, sentAs, readIn, writeIn}
+use Rattle.station.specs.Station.{left, loadedAt, loadedIn, outstationIn, putLoaded, putOutstation, leftIn, setUpIn, happensIn, sentAs, readIn, writeIn}
 
--- ---- a recorder handed back, its row written and its answer made one number
+-- ---- an outstation handed back, its row written and its answer made one number
 
-module _ (row after v s m v0 s0 m0 : List ℕ) (r : Recorder) (d : Stepped) (n : ℕ) (from : r ≡ recorderFrom row)
-    (put : after ≡ putRow row (recorderRow (d .recorder))) (one : n ≡ oneNumber (d .answer) (d .carried)) where
-  left-is : (x : Done) → done d v s m ≡ x → left n after v s m ≡ leftIn row x
+module _ (row after v s m b v0 s0 m0 b0 : List ℕ) (d : Answered) (n : ℕ)
+    (put : after ≡ putOutstation row (d .outstation)) (one : n ≡ oneNumber (d .answer) (d .carried)) where
+  left-is : (x : Done) → done d v s m b ≡ x → left n after v s m b ≡ leftIn row x
   left-is x e = rw (put, one) (ap (leftIn row) e)
 
-  pub set-up-left : done d v s m ≡ setUp (setUpWith (r .identity .identifier) (r .identity .class) (r .identity .weight) (r .clock .time) (r .energy .total) (r .energy .last)) (store v0 s0 m0)
-      → left n after v s m ≡ setUpIn row (store v0 s0 m0)
+  pub set-up-left : (r : Recorder) → r ≡ recorderFrom row
+      → done d v s m b ≡ setUpSite (setUpWith (r .identity .identifier) (r .identity .class) (r .identity .weight) (r .clock .time) (r .energy .total) (r .energy .last)) (store v0 s0 m0) b0
+      → left n after v s m b ≡ setUpIn row (store v0 s0 m0) b0
   unfolding setUpIn
-  set-up-left e = rw (← from) (left-is _ e)
+  set-up-left r from e = rw (← from) (left-is _ e)
 
-  pub step-left : (e : Event) → done d v s m ≡ step (mem r v0 s0 m0) e → left n after v s m ≡ stepIn row e (store v0 s0 m0)
-  unfolding stepIn
-  step-left x e = rw (← from) (left-is _ e)
+  pub happens-left : (o : Outstation) → o ≡ outstationIn row → (h : Happening) → done d v s m b ≡ happens (site o v0 s0 m0 b0) h → left n after v s m b ≡ happensIn row h (store v0 s0 m0) b0
+  unfolding happensIn
+  happens-left o from h e = left-is _ (e ∙ ap (λ (k : Outstation). happens (site k v0 s0 m0 b0) h) from)
+
+pub not-there : (row : List ℕ) → length row ≤ loadedAt → false ≡ loadedIn row
+not-there row h = rw (List·getD-eq-default row 0 h)
+
+pub loaded-put : (row : List ℕ) (b : Bool) (n : ℕ) → n ≡ bit b → set row loadedAt n ≡ putLoaded row b
+loaded-put row b n e = ap (set row loadedAt) e
+
+pub none-put : (row : List ℕ) (b : Bool) → length row ≤ loadedAt → row ≡ putLoaded row b
+none-put row b h = sym (set-out row loadedAt (bit b) h)
+
+pub out-put : (row mid after : List ℕ) (o : Outstation) → mid ≡ putRow row (recorderRow (o .recorder)) → after ≡ putLoaded mid (o .loaded) → after ≡ putOutstation row o
+out-put row mid after o p q = q ∙ ap (λ (r : List ℕ). putLoaded r (o .loaded)) p
 
 -- ---- an output, and its answer made one number
 

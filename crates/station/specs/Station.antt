@@ -1,37 +1,67 @@
--- An outstation whose recorder is a row of numbers (`rows`): what a set-up, an event, a read and a write leave, with the answer as one number, as the library
--- for C gives it. They are those of the recorder, the read-out and the writer.
+-- An outstation that is a row of numbers, its recorder's (`rows`) and behind them whether a switching table is loaded: what a set-up, what happens, a read and a write leave, with the answer as one
+-- number, as the library for C gives it. They are those of the outstation, the read-out and the writer.
 use Prim.Native.Nat.{ℕ}
+use mathlib.Core.Bool.{Bool}
 use mathlib.Core.List.{List}
+use lib.Dec.{eqb}
+use lib.ListN.{getD, set}
+use Rattle.laws.specs.Bits.{bit}
 use Rattle.store.specs.Store.{Store, store}
-use Rattle.recorder.specs.declared.Event.{Event}
 use Rattle.recorder.specs.declared.SetUp.{SetUp}
 use Rattle.recorder.specs.Recorder.{Mem}
-use Rattle.recorder.specs.SetUp.{setUp}
 use Rattle.recorder.specs.SetUp.{given as setUpWith}
-use Rattle.recorder.specs.Step.{Done, step}
+use Rattle.outstation.specs.declared.Outstation.{Outstation}
+use Rattle.outstation.specs.Outstation.{Site, Happening, Done, happens}
+use Rattle.outstation.specs.SetUp.{setUpSite}
 use Rattle.writer.specs.Send.{Sent, writeOf}
 use Rattle.readout.specs.Read.{readOf}
 use Rattle.desk.specs.Given.{Given, given}
 use Rattle.desk.specs.Numbers.{oneNumber, numberOf}
-use Rattle.rows.specs.Rows.{putRow, recorderRow, recorderFrom, headerFrom}
+use Rattle.rows.specs.Rows.{putRow, recorderNumbers, recorderRow, recorderFrom, headerFrom}
 
--- the answer as one number, the row and the store
+-- the answer as one number, the row, the store and the table's room
 pub record Left : Type 0 where
   pub number : ℕ
   pub row : List ℕ
   pub store : Store
+  pub table : List ℕ
 
-abbrev pub left : ℕ → List ℕ → List ℕ → List ℕ → List ℕ → Left
-left n row v s m = record { number = n; row = row; store = store v s m }
+abbrev pub left : ℕ → List ℕ → List ℕ → List ℕ → List ℕ → List ℕ → Left
+left n row v s m b = record { number = n; row = row; store = store v s m; table = b }
 
--- the recorder that is handed back lies in the row again
+-- the outstation that a row is, and its row written again
+abbrev pub loadedAt : ℕ
+loadedAt = recorderNumbers
+
+abbrev pub loadedIn : List ℕ → Bool
+loadedIn row = eqb (getD row loadedAt 0) 1
+
+abbrev pub outstationIn : List ℕ → Outstation
+outstationIn row = record { recorder = recorderFrom row; loaded = loadedIn row }
+
+abbrev pub putLoaded : List ℕ → Bool → List ℕ
+putLoaded row loaded = set row loadedAt (bit loaded)
+
+abbrev pub putOutstation : List ℕ → Outstation → List ℕ
+putOutstation row o = putLoaded (putRow row (recorderRow (o .recorder))) (o .loaded)
+
+-- the outstation that is handed back lies in the row again
 abbrev pub leftIn : List ℕ → Done → Left
 leftIn row d =
-    record { number = oneNumber (d .answer) (d .carried); row = putRow row (recorderRow (d .after .recorder)); store = d .after .store }
+    let x = d .after in
+    record {
+      number = oneNumber (d .answer) (d .carried);
+      row = putOutstation row (record { recorder = x .mem .recorder; loaded = x .loaded });
+      store = x .mem .store;
+      table = x .table;
+    }
 
--- a row's recorder beside a store
+-- a row's recorder beside a store, and its outstation
 abbrev pub memIn : List ℕ → Store → Mem
 memIn row x = record { recorder = recorderFrom row; store = x }
+
+abbrev pub siteIn : List ℕ → Store → List ℕ → Site
+siteIn row x b = record { mem = memIn row x; loaded = loadedIn row; table = b }
 
 -- what a row's recorder is set up with
 abbrev pub setUpFrom : List ℕ → SetUp
@@ -39,11 +69,11 @@ setUpFrom row =
     let r = recorderFrom row in
     setUpWith (r .identity .identifier) (r .identity .class) (r .identity .weight) (r .clock .time) (r .energy .total) (r .energy .last)
 
-unfoldable pub setUpIn : List ℕ → Store → Left
-setUpIn row x = leftIn row (setUp (setUpFrom row) x)
+unfoldable pub setUpIn : List ℕ → Store → List ℕ → Left
+setUpIn row x b = leftIn row (setUpSite (setUpFrom row) x b)
 
-unfoldable pub stepIn : List ℕ → Event → Store → Left
-stepIn row e x = leftIn row (step (memIn row x) e)
+unfoldable pub happensIn : List ℕ → Happening → Store → List ℕ → Left
+happensIn row h x b = leftIn row (happens (siteIn row x b) h)
 
 -- an output and the answer as one number
 abbrev pub sentAs : Sent → Given

@@ -1,6 +1,7 @@
 //! The limits that a class's complete days, a block, a window and a listing have, and whether each was met on both its
 //! sides, as far as a script reaches them: the last number that is taken, and the first that isn't.
 
+use super::sides::{Side, Sides};
 use crate::answer::*;
 use crate::block::{self, bytes_for};
 use crate::calendar::{self, day_of};
@@ -10,9 +11,6 @@ use crate::lives::IDENTIFIER;
 use crate::recorder::{Class, Recorder, StoreLength};
 use crate::script::{Player, KEPT_BLOCKS, LONGEST_STORE};
 use std::collections::BTreeSet;
-
-/// One side of a limit: what was tried, with which number, and how it was answered.
-type Side = (String, u64, u32);
 
 const RECORDS_CHECKED: &str = "records of a block that is checked";
 const DAYS_WRITTEN: &str = "days given to the writer";
@@ -79,7 +77,7 @@ fn all() -> BTreeSet<Side> {
 
 #[derive(Default)]
 pub struct Limits {
-    met: BTreeSet<Side>,
+    sides: Sides,
     /// The call that last passed midnights from the day of set-up on, and how many.
     passed: Option<(&'static str, u64)>,
 }
@@ -125,7 +123,7 @@ impl Limits {
     }
 
     fn meet(&mut self, what: impl Into<String>, number: u64, answer: u32) {
-        self.met.insert((what.into(), number, answer));
+        self.sides.meet(what, number, answer);
     }
 
     fn pass(&mut self, call: &'static str, before: &Recorder, player: &Player) {
@@ -166,15 +164,8 @@ impl Limits {
         }
     }
 
-    /// Prints how many sides were met, and those that weren't; true where all were.
     pub fn told(&self) -> bool {
-        let all = all();
-        let missing: Vec<&Side> = all.difference(&self.met).collect();
-        println!("sides of limits met: {} of {}", all.len() - missing.len(), all.len());
-        for (what, number, answer) in &missing {
-            println!("MISSING {what}: {number}, answered {answer}");
-        }
-        missing.is_empty()
+        self.sides.told("sides of limits", &all())
     }
 }
 

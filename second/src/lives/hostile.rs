@@ -1,11 +1,7 @@
-//! Hostile lives: poked recorders and stores, lengths lent wrong, wrong power, bad
-//! times, rates, PPPs and asks, outputs too short, the blank recorder.
+//! Hostile lives: set-ups refused, the blank recorder, recorders and stores poked, and every call to them.
 
 use super::{letter, plain_events, Life, Script, IDENTIFIER, MOST_32_BITS, UNIT_A_PULSE};
-use crate::block::{
-    bytes_for, AT_TIME, DAY_BYTES, DEMAND_RESET, FLAGS, FRAME_BYTES, HEADER_BYTES, LENGTH_BYTES, MARKS_MODULUS,
-    METER_CHANGED, MOST_BYTES, POWER_LOST, RATES,
-};
+use crate::block::{DEMAND_RESET, FLAGS, MARKS_MODULUS, METER_CHANGED, POWER_LOST, RATES};
 use crate::calendar::{self, DAYS, HALF_HOURS, LAST_TIME, SECONDS_PER_DAY};
 use crate::quantities::{
     self, DEMAND_MODULUS, LEAST_WEIGHT, MOST_UNITS, MOST_WEIGHT, READING_MODULUS, RESETS_MODULUS, THOUSANDTHS_PER_UNIT,
@@ -23,11 +19,11 @@ pub fn every_call(life: &mut Life) {
     life.say_all(&["read 1", "read 0", &rate_too_many(), "rate 0", "ppp a-c", &asked_too_many(), "read 1 0"]);
 }
 
-fn rate_too_many() -> String {
+pub fn rate_too_many() -> String {
     format!("rate {}", RATES + 1)
 }
 
-fn asked_too_many() -> String {
+pub fn asked_too_many() -> String {
     format!("read {}", MOST_ASKED + 1)
 }
 
@@ -75,7 +71,7 @@ pub fn set_ups(seed: u64) -> Script {
 }
 
 /// Lengths that are not the right one.
-fn wrong_lengths(right: StoreLength) -> Vec<StoreLength> {
+pub fn wrong_lengths(right: StoreLength) -> Vec<StoreLength> {
     let mut lengths = vec![StoreLength::default()];
     for class in Class::ALL {
         if class.store_length() != right {
@@ -102,7 +98,7 @@ pub fn pokes(seed: u64) -> Script {
     let [a, b, _, d] = Class::ALL.map(|class| class.days() as u64);
     let (day, ring) = (SECONDS_PER_DAY, a * SECONDS_PER_DAY);
     let (rates, demand) = (RATES as u64, DEMAND_MODULUS);
-    let fields: [(&str, &[u64]); 15] = [
+    let fields: [(&str, &[u64]); 16] = [
         ("weight", &[LEAST_WEIGHT - 1, LEAST_WEIGHT, MOST_WEIGHT, MOST_WEIGHT + 1, MOST_32_BITS]),
         ("time", &[0, 1, day - 1, day, ring, LAST_TIME, LAST_TIME + 1, MOST_32_BITS + 1, MOST_NUMBER]),
         ("power", &[0, 1]),
@@ -118,6 +114,7 @@ pub fn pokes(seed: u64) -> Script {
         ("base", &[0, 1, READING_MODULUS - 1, READING_MODULUS, MOST_32_BITS]),
         ("reverse", &[0, 1]),
         ("level2", &[0, 1]),
+        ("loaded", &[0, 1]),
     ];
     for (name, values) in fields {
         for value in values {
@@ -247,156 +244,4 @@ pub fn stores(seed: u64) -> Script {
         life.say_all(&["show", &format!("read {held}"), "read 1", "listing"]);
     }
     life.finish("hostile stores")
-}
-
-/// Calls with wrong power, wrong times, wrong lengths and short outputs.
-pub fn calls(seed: u64) -> Script {
-    let mut life = Life::new(seed);
-    for class in Class::ALL {
-        life.lived(class, 3);
-        for lent in wrong_lengths(class.store_length()) {
-            life.lend(lent);
-            every_call(&mut life);
-            life.say("show");
-            let today = life.today();
-            life.day(today);
-            // 5 stands behind 4, and 4 before all others.
-            life.say(format!("poke {}", rate_too_many()));
-            every_call(&mut life);
-            life.say("poke rate 1");
-            life.say("poke class 0");
-            every_call(&mut life);
-            life.day(today);
-            life.say(format!("poke class {}", class as usize + 1));
-        }
-        life.say("lend");
-        life.say("show");
-        power(&mut life);
-        times(&mut life);
-        life.lived(class, 3);
-        outputs(&mut life);
-    }
-    // Random calls one after the other.
-    for _ in 0..40 {
-        let days = life.random.below(3);
-        life.lived(Class::A, days);
-        for _ in 0..30 {
-            random_call(&mut life);
-        }
-        life.say("show");
-    }
-    life.finish("hostile calls")
-}
-
-/// On while on, everything else while off, alone and with a later fault beside it.
-fn power(life: &mut Life) {
-    life.say("on @0");
-    let now = life.time();
-    life.say(format!("on @{now}"));
-    life.say(format!("on @{}", LAST_TIME + 1));
-    life.say("off");
-    for event in plain_events(now, 5) {
-        if !event.starts_with("on") {
-            life.say(event);
-        }
-    }
-    life.say_all(&[&rate_too_many(), "rate 0", "ppp a-c", &asked_too_many(), "read 1", "read 0 0", "clock @0"]);
-    life.say_all(&[&format!("clock @{MOST_NUMBER}"), "count 4000000000", "show"]);
-    life.say(format!("on @{}", now - 1));
-    life.say(format!("on @{}", LAST_TIME + 1));
-    life.say("show");
-    life.say(format!("on @{now}"));
-    let today = life.today();
-    life.day(today);
-    life.say_all(&["show", "read 2", "block"]);
-}
-
-fn times(life: &mut Life) {
-    let now = life.time();
-    let times = [
-        0,
-        1,
-        now - SECONDS_PER_DAY,
-        now - 1,
-        LAST_TIME + 1,
-        LAST_TIME + 2,
-        MOST_32_BITS,
-        MOST_32_BITS + 1,
-        MOST_32_BITS + 1 + now,
-        1 << 40,
-        MOST_NUMBER,
-        now,
-        now + 1,
-    ];
-    for time in times {
-        life.say(format!("clock @{time}"));
-        life.say("show");
-    }
-    for time in times {
-        life.say("off");
-        life.say(format!("on @{time}"));
-        life.say("show");
-        let now = life.time();
-        life.say(format!("on @{now}"));
-    }
-    for rate in (0..=RATES as u64 + 2).chain([255, 256, 257, MOST_32_BITS]) {
-        life.say(format!("rate {rate}"));
-        life.pulses(1);
-        life.say("show");
-    }
-}
-
-/// Reads with asks about the limits and outputs of every interesting length.
-fn outputs(life: &mut Life) {
-    let most = u64::from(MOST_ASKED);
-    let few = [0, 1, 2, 3, 4, Class::A.days() as u64, Class::D.days() as u64];
-    for asked in few.into_iter().chain(most - 1..=most + 2).chain([65_536, MOST_32_BITS]) {
-        life.say(format!("read {asked}"));
-        life.say("check");
-    }
-    for asked in [0, 1, 2, most, most + 1] {
-        let needed = bytes_for(life.player.recorder.days.min(asked) as usize);
-        let rooms = [0, 1, LENGTH_BYTES - 1, LENGTH_BYTES, FRAME_BYTES, AT_TIME]
-            .into_iter()
-            .chain(HEADER_BYTES - 1..=HEADER_BYTES + 1)
-            .chain(bytes_for(1) - 1..=bytes_for(1) + 1)
-            .chain([needed.saturating_sub(DAY_BYTES)])
-            .chain(needed - 2..=needed + 1)
-            .chain([needed + DAY_BYTES, MOST_BYTES - 1, MOST_BYTES]);
-        for room in rooms {
-            life.say(format!("read {asked} {room}"));
-        }
-        life.say_all(&["listing", "check"]);
-    }
-    // The days to be sent are judged after 6 and before 7.
-    let room = life.player.recorder.class.map_or(0, |class| class.room(life.today()));
-    life.say(format!("poke start {room} {READING_MODULUS}"));
-    life.say_all(&[&asked_too_many(), "read 1 0", "read 1", &format!("read 0 {}", HEADER_BYTES - 1), "read 0"]);
-    life.say(asked_too_many() + " 0");
-    let now = life.time();
-    life.clock(now + SECONDS_PER_DAY);
-    life.say_all(&["read 1", "read 2", "read 1 5", "read 2 5", "listing"]);
-}
-
-fn random_call(life: &mut Life) {
-    let now = life.time();
-    let call = match life.random.below(18) {
-        0 => "off".to_string(),
-        1 | 2 => format!("on @{}", (now + life.random.below(9_000)).saturating_sub(life.random.below(4_000))),
-        3 | 4 => format!("clock @{}", (now + life.random.below(9_000)).saturating_sub(life.random.below(4_000))),
-        5 => format!("count {}", life.random.bits() as u32),
-        6 => format!("count {}", life.player.recorder.last.wrapping_add(life.random.below(2_000) as u32)),
-        7 => format!("rate {}", life.random.below(RATES as u64 + 3)),
-        8 => "access".to_string(),
-        9 => "reverse".to_string(),
-        10 => "reset".to_string(),
-        11 => format!("meter {}", life.random.bits() as u32),
-        12 => format!("read {} {}", life.random.below(4), life.random.below(800)),
-        13 => format!("read {}", life.random.below(u64::from(MOST_ASKED) + 101)),
-        14 => "listing".to_string(),
-        15 => format!("ppp {}", life.random_ppp()),
-        16 => format!("ppp {}", life.random.pick(&["-bc", "a-c", "ab-", "@A[", "`a{", "/0:"])),
-        _ => "show".to_string(),
-    };
-    life.say(call);
 }

@@ -18,7 +18,7 @@ fn well_formed() -> Vec<String> {
     let (last_kept, last_letter) = (KEPT_BLOCKS - 1, identifier::LENGTH - 1);
     let (last_day, last_half_hour) = (block::MOST_DAYS - 1, HALF_HOURS - 1);
     let (most_value, longest_window) = (VALUE_MODULUS - 1, ledger::MOST_DAYS);
-    lines(format!(
+    split(format!(
         "setup {IDENTIFIER} a 10000 240229 110000 0 0\n\
          setup {IDENTIFIER} b 10000 @762000000 5000 {MOST_32_BITS}\n\
          count 5\n\
@@ -82,7 +82,7 @@ fn not_understood() -> Vec<String> {
     let past_block = MOST_BYTES + 1;
     let (past_rates, past_classes) = (RATES + 1, Class::ALL.len() + 1);
     let letters = identifier::LENGTH;
-    lines(format!(
+    split(format!(
         "count\n\
          count x\n\
          count -1\n\
@@ -182,7 +182,7 @@ fn not_understood_either() -> Vec<String> {
     let past_32_bits = MOST_32_BITS + 1;
     let past_most = MOST_NUMBER + 1;
     let (letters, past_rates, given_days) = (identifier::LENGTH, RATES + 1, block::MOST_DAYS);
-    lines(format!(
+    split(format!(
         "lend 1\n\
          lend 1 2\n\
          lend {past_values} 0 0\n\
@@ -253,7 +253,7 @@ fn not_understood_either() -> Vec<String> {
     ))
 }
 
-fn lines(text: String) -> Vec<String> {
+pub fn split(text: String) -> Vec<String> {
     text.split('\n').map(str::to_string).collect()
 }
 
@@ -320,7 +320,7 @@ fn odd_bytes(life: &mut Life) {
 }
 
 /// One slip of the pen.
-fn garble(life: &mut Life, mut line: Vec<u8>) -> Vec<u8> {
+pub fn garble(life: &mut Life, mut line: Vec<u8>) -> Vec<u8> {
     let at = life.random.below(line.len() as u64) as usize;
     match life.random.below(7) {
         0 => line.extend(b" x"),

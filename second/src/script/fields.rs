@@ -1,5 +1,5 @@
-//! The fields that a script sets by name: those given to the writer, and those of the recorder, its store and the
-//! ledger, in range or not.
+//! The fields that a script sets by name: those given to the writer, and those of the recorder, its store, the
+//! table's room and the ledger, in range or not.
 
 use super::words::*;
 use super::Player;
@@ -87,6 +87,7 @@ impl Player {
             [b"base", n] => r.base = number_32_bits(n)?,
             [b"reverse", n] => r.reverse = yes_or_no(n)?,
             [b"level2", n] => r.level2 = yes_or_no(n)?,
+            [b"loaded", n] => r.loaded = yes_or_no(n)?,
             [b"letter", i, n] => {
                 let n = number_u8(n)?;
                 *r.identifier.get_mut(number_below(i, identifier::LENGTH)?)? = n;
@@ -100,7 +101,7 @@ impl Player {
         print_done(0)
     }
 
-    /// An element of the store or a byte of the ledger.
+    /// An element of the store, a byte of the table's room or of the ledger.
     fn poke_element(&mut self, words: &[Word]) -> Option<String> {
         match words {
             [b"value", i, n] => {
@@ -114,6 +115,10 @@ impl Player {
             [b"mark", i, n] => {
                 let n = number(n)?;
                 *self.lend().1.marks.get_mut(number_up_to(i, usize::MAX)?)? = n;
+            }
+            [b"table", i, n] => {
+                let n = number_u8(n)?;
+                *self.lend().1.table.get_mut(number_up_to(i, usize::MAX)?)? = n;
             }
             [b"ledger", i, n] => {
                 let n = number_u8(n)?;

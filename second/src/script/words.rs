@@ -77,7 +77,7 @@ pub fn time<'a, 'b>(words: &'b [Word<'a>]) -> Option<(u64, &'b [Word<'a>])> {
 }
 
 /// Words that are one time and nothing else.
-fn only_time(words: &[Word]) -> Option<u64> {
+pub fn only_time(words: &[Word]) -> Option<u64> {
     match time(words)? {
         (time, []) => Some(time),
         _ => None,
@@ -92,8 +92,8 @@ fn ppp(word: Word) -> Option<Ppp> {
     word.try_into().ok()
 }
 
-/// The ten events.
-pub fn event(words: &[Word]) -> Option<Event> {
+/// The events but for the load, which has the editor's table.
+pub fn event(words: &[Word]) -> Option<Event<'static>> {
     Some(match words {
         [b"count", n] => Event::Count(number_u32(n)?),
         [b"clock", rest @ ..] => Event::Clock(only_time(rest)?),

@@ -1,6 +1,7 @@
-//! Every complete day of the class is there, whatever happens, and the identifier is set-up's with the last PPP
-//! accepted: random lives beside a history that forgets nothing.
+//! Every complete day of the class is there, whatever happens, the identifier is set-up's with the last PPP accepted, and
+//! each rate register has what was counted while its rate was active: random lives beside a history that forgets nothing.
 
+use super::tariff::rate_by_looking;
 use super::*;
 use crate::block::{DEMAND_RESET, METER_CHANGED, POWER_LOST, RATES};
 use crate::calendar::{day_of, ended, HALF_HOURS, SECONDS_PER_DAY, SECONDS_PER_HALF_HOUR};
@@ -10,12 +11,16 @@ use crate::random::Random;
 
 const WEIGHT: u64 = 10_000;
 
-/// All days since set-up, as a block has them, and the identifier, kept by the events that were accepted.
+/// All days since set-up, as a block has them, the identifier, the table and the registers, kept by the events that were
+/// accepted.
 pub struct History {
     pub identifier: Identifier,
     pub time: u64,
     total: u64,
     last: u32,
+    pub rate: u64,
+    pub registers: [u64; RATES],
+    table: Option<Vec<u8>>,
     off_since: u64,
     reverse: bool,
     level2: bool,
@@ -31,7 +36,20 @@ impl History {
             *value = (start % 10_000) as u16;
         }
         let Recorder { identifier, time, total, last, .. } = *given;
-        History { identifier, time, total, last, off_since: 0, reverse: false, level2: false, first, days: vec![day] }
+        History {
+            identifier,
+            time,
+            total,
+            last,
+            rate: 1,
+            registers: [0; RATES],
+            table: None,
+            off_since: 0,
+            reverse: false,
+            level2: false,
+            first,
+            days: vec![day],
+        }
     }
 
     fn today(&mut self) -> &mut Day {
@@ -48,6 +66,8 @@ impl History {
             Event::Count(counter) => {
                 let pulses = u64::from(counter.wrapping_sub(self.last));
                 self.total = (self.total + pulses * WEIGHT) % TOTAL_MODULUS;
+                let register = &mut self.registers[self.rate as usize - 1];
+                *register = (*register + pulses * WEIGHT) % TOTAL_MODULUS;
                 self.last = counter;
             }
             Event::Clock(time) => self.pass(time),
@@ -67,7 +87,11 @@ impl History {
                 self.level2 = true;
                 self.today().flags |= DEMAND_RESET;
             }
-            Event::Rate(_) => {}
+            Event::Rate(rate) => self.rate = u64::from(rate),
+            Event::Load(table) => {
+                self.table = Some(table.to_vec());
+                self.switch();
+            }
             Event::Reverse => self.reverse = true,
             Event::Ppp(ppp) => {
                 let nine = self.identifier[3..].to_vec();
@@ -94,6 +118,14 @@ impl History {
             }
         }
         self.time = time;
+        self.switch();
+    }
+
+    /// A table that was accepted names a rate at every second.
+    fn switch(&mut self) {
+        if let Some(table) = &self.table {
+            self.rate = u64::from(rate_by_looking(table, self.time));
+        }
     }
 
     /// Today as a read sends it.
@@ -137,8 +169,9 @@ impl Watched {
         if self.outstation.event(event) == 0 {
             self.history.accept(event);
         }
-        let Recorder { identifier, time, .. } = self.outstation.recorder;
+        let Recorder { identifier, time, rate, registers, .. } = self.outstation.recorder;
         assert_eq!((identifier, time), (self.history.identifier, self.history.time));
+        assert_eq!((rate, registers), (self.history.rate, self.history.registers));
         assert_eq!(identifier[3..], IDENTIFIER[3..]);
         for day in self.complete_days() {
             assert_eq!(self.outstation.day(&calendar::write_date(day)), *self.history.day(day));
@@ -205,7 +238,7 @@ pub fn any_ppp(random: &mut Random) -> Ppp {
 }
 
 /// Anything that may happen, what is refused among it.
-pub fn any_event(watched: &Watched, random: &mut Random) -> Event {
+pub fn any_event(watched: &Watched, random: &mut Random) -> Event<'static> {
     let recorder = &watched.outstation.recorder;
     let left = lives::pulses_left(recorder);
     match random.below(17) {

@@ -198,13 +198,14 @@ fn hostile_numbers_never_panic() {
     assert_eq!(block::write(&header, &[day], &mut []), Answer::refused(DAMAGED));
     let recorder =
         Recorder { class: Some(Class::D), time: hostile, days: hostile, total: hostile, base: hostile, ..BLANK };
-    let mut store = Store { values: &mut [], starts: &mut [], marks: &mut [] };
+    let mut store = Store { values: &mut [], starts: &mut [], marks: &mut [], table: &mut [] };
     assert_eq!(recorder.step(Event::On(hostile), &mut store).1, Answer::refused(WRONG_LENGTH));
     let length = Class::D.store_length();
     let mut store = Store {
         values: &mut vec![u16::MAX; length.values],
         starts: &mut vec![u32::MAX; length.starts],
         marks: &mut vec![u64::MAX; length.marks],
+        table: &mut [u8::MAX; TABLE_BYTES],
     };
     assert_eq!(recorder.step(Event::Count(0), &mut store).1, Answer::refused(DAMAGED));
     assert_eq!(ledger::open(&IDENTIFIER, hostile, hostile, &mut []), Answer::refused(OUT_OF_RANGE));

@@ -100,8 +100,8 @@ fn one_rule_for_an_identifier_everywhere() {
 
 fn set_up_with(identifier: Identifier) -> u32 {
     let given = SetUp { identifier, class: Some(Class::A), weight: 1, time: 0, total: 0, counter: 0 };
-    let (values, starts, marks) = (&mut [0; 1_008], &mut [0; 21], &mut [0; 63]);
-    let (recorder, answer) = recorder::set_up(&given, &mut Store { values, starts, marks });
+    let (values, starts, marks, table) = (&mut [0; 1_008], &mut [0; 21], &mut [0; 63], &mut [0; 440]);
+    let (recorder, answer) = recorder::set_up(&given, &mut Store { values, starts, marks, table });
     assert_eq!(recorder.identifier, if answer.number == 0 { identifier } else { [0; 12] });
     answer.number
 }
@@ -125,8 +125,7 @@ fn recorder_with(identifier: Identifier) -> u32 {
         outstation.recorder = begun;
         numbers.push(outstation.event(event));
     }
-    let store = Store { values: &mut outstation.values, starts: &mut outstation.starts, marks: &mut outstation.marks };
-    numbers.push(begun.read(0, &store, &mut [0; 112]).number);
+    numbers.push(begun.read(0, &outstation.lend().1, &mut [0; 112]).number);
     numbers.dedup();
     assert_eq!(numbers.len(), 1);
     numbers[0]

@@ -70,7 +70,7 @@ fn set_up_and_opening_check_6_before_4() {
         "setup ABCX24000017 e 1 @0 0 0",
         &format!("setup ABCX24000017 a 1 @{} 0 0", calendar::LAST_TIME + 1),
     ];
-    let blank = ["0"; 24].join(" ");
+    let blank = ["0"; 25].join(" ");
     assert_eq!(answers(&lines), ["0 0", "6 0", "4 0", &blank, "5 0", "6 0", "6 0"]);
     let mut short = [1; ledger::HEADER_BYTES - 1];
     let last = calendar::LAST_DAY;

@@ -5,11 +5,11 @@ use Rattle.replay.proofs.run.Statement.{statement}
 use Rattle.replay.proofs.run.Tie as tie
 
 abbrev Inv-loop : tie.InvT-loop
-Inv-loop script row₀ values₀ starts₀ marks₀ blocks₀ ledger₀ at₀ from₀ row values starts marks blocks ledger at from =
+Inv-loop script row₀ values₀ starts₀ marks₀ blocks₀ ledger₀ table₀ editor₀ at₀ from₀ row values starts marks blocks ledger table editor at from =
     at ≤ from
 
 abbrev μ-loop : tie.MeasureT-loop
-μ-loop script row₀ values₀ starts₀ marks₀ blocks₀ ledger₀ at₀ from₀ row values starts marks blocks ledger at from =
+μ-loop script row₀ values₀ starts₀ marks₀ blocks₀ ledger₀ table₀ editor₀ at₀ from₀ row values starts marks blocks ledger table editor at from =
     length script - from
 
 loop-holds : tie.Need-loop-holds Inv-loop μ-loop

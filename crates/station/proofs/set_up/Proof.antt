@@ -9,8 +9,8 @@ recorder-requires c κs = search needs
 set-up-requires : tie.Need-set-up-requires
 set-up-requires c κs = search needs
 
-put-recorder-requires : tie.Need-put-recorder-requires
-put-recorder-requires c κs = search needs
+put-outstation-requires : tie.Need-put-outstation-requires
+put-outstation-requires c κs = search needs
 
 one-number-requires : tie.Need-one-number-requires
 one-number-requires c κs = search needs
@@ -27,6 +27,9 @@ same-length-3 c = search needs
 same-length-4 : tie.Need-same-length-4
 same-length-4 c = search needs
 
+same-length-5 : tie.Need-same-length-5
+same-length-5 c = search needs
+
 returns : tie.Need-returns
 returns c = search set-up-left
 
@@ -36,10 +39,11 @@ set-up-spec =
     (tie.spec
     recorder-requires
     set-up-requires
-    put-recorder-requires
+    put-outstation-requires
     one-number-requires
     same-length
     same-length-2
     same-length-3
     same-length-4
+    same-length-5
     returns)

@@ -1,0 +1,107 @@
+-- What is proved of an outstation from its set-up on.
+-- Assumes nothing.
+use Prim.Native.Nat.{ℕ, suc, _+_, _%_, _<_}
+use mathlib.Core.Path.{_≡_, refl, sym, ap, _∙_}
+use mathlib.Core.Bool.{Bool, true, false, cond, false≢true}
+use mathlib.Core.List.{List, [], _∷_}
+use lib.Dec.{eqb}
+use lib.ListN.{length, getD, replicate, getD-replicate}
+use borrow.Author.Tests.{eq-eqb}
+use native.Mathlib.Omega.{arith}
+use Rattle.laws.proofs.Checks.{none-fails, all-pass}
+use Rattle.laws.proofs.Split.{by-test}
+use Rattle.quantity.specs.declared.MilliwattHours.{MilliwattHours}
+use Rattle.quantity.specs.Units.{totalRound}
+use Rattle.registers.specs.Energy.{rateCount, noEnergy}
+use Rattle.store.specs.Store.{Store}
+use Rattle.recorder.specs.declared.SetUp.{SetUp}
+use Rattle.recorder.specs.declared.Event.{Event}
+use Rattle.recorder.specs.Recorder.{Mem}
+use Rattle.recorder.specs.Step.{run as play}
+use Rattle.recorder.specs.SetUp.{setUpAnswer, setUpWith, started, fresh, made, setUp}
+use Rattle.recorder.proofs.Kept.{Sound, made-sound}
+use Rattle.outstation.specs.Outstation.{Site, Happening, of, load, tellsTime, answerOf, happens, run}
+use Rattle.outstation.specs.SetUp.{siteChecks, begun, setUpSite}
+use Rattle.outstation.specs.Lives.{toldAll, tableSet, lastTable, loadedSet, someLoad, countedAt, SiteLife, SiteLives}
+use Rattle.outstation.proofs.Runs.{all}
+use Rattle.outstation.proofs.Agreeing.{Going, going, agrees}
+use Rattle.outstation.proofs.Counted.{counted}
+
+-- ---- set-up
+
+module _ (s : SetUp) (x : Store) (b : List ℕ) (a : setUpSite s x b .answer ≡ 0) where
+  pub recorder-set-up : setUp s x .answer ≡ 0
+  unfolding setUpSite setUp setUpWith
+  recorder-set-up = let n = none-fails (siteChecks s x b) refl a in rw (n .0, n .1 .0)
+
+  pub recorder-made : setUp s x .after ≡ made s
+  unfolding setUp
+  recorder-made = rw (eq-eqb (setUpAnswer s x) 0 recorder-set-up)
+
+  pub site-begun : setUpSite s x b .after ≡ begun s
+  unfolding setUpSite
+  site-begun = rw (eq-eqb _ 0 a)
+
+  pub begun-sound : Sound (made s)
+  unfolding setUp
+  begun-sound = made-sound s x recorder-set-up
+
+  begins : Going (begun s)
+  begins = record { sound = begun-sound; keeps = record { accepted = λ l. absurd (false≢true l); rate = λ l. absurd (false≢true l) } }
+
+-- ---- the last accepted table
+
+record Held (x : Site) (h : Happening) : Type 0 where
+  table : happens x h .after .table ≡ tableSet (x .table) x h
+  loaded : happens x h .after .loaded ≡ loadedSet (x .loaded) x h
+
+held : (x : Site) (h : Happening) → Held x h
+unfolding happens
+held x (of e) =
+    record {
+      table = by-test (eqb (answerOf x (of e)) 0) (λ z. rw z (by-test (tellsTime e) (λ t. rw t) (λ t. rw t))) (λ z. rw z);
+      loaded = by-test (eqb (answerOf x (of e)) 0) (λ z. rw z (by-test (tellsTime e) (λ t. rw t) (λ t. rw t))) (λ z. rw z);
+    }
+held x (load f) =
+    record {
+      table = by-test (eqb (answerOf x (load f)) 0) (λ z. rw z) (λ z. rw z);
+      loaded = by-test (eqb (answerOf x (load f)) 0) (λ z. rw z) (λ z. rw z);
+    }
+
+last-table : (hs : List Happening) (x : Site) → run x hs .table ≡ lastTable (x .table) x hs
+unfolding run lastTable
+last-table [] x = refl
+last-table (h ∷ hs) x = last-table hs (happens x h .after) ∙ ap (λ (b : List ℕ). lastTable b (happens x h .after) hs) (held x h .table)
+
+some-load : (hs : List Happening) (x : Site) → run x hs .loaded ≡ someLoad (x .loaded) x hs
+unfolding run someLoad
+some-load [] x = refl
+some-load (h ∷ hs) x = some-load hs (happens x h .after) ∙ ap (λ (b : Bool). someLoad b (happens x h .after) hs) (held x h .loaded)
+
+-- ---- a life
+
+fresh-rates : (s : SetUp) → made s .recorder .energy .rates ≡ replicate rateCount noEnergy
+unfolding made fresh started
+fresh-rates s = refl
+
+begun-rates : (s : SetUp) → length (made s .recorder .energy .rates) ≡ rateCount
+begun-rates s = rw (fresh-rates s)
+
+begun-zero : (s : SetUp) (i : ℕ) → i < rateCount → getD (made s .recorder .energy .rates) i noEnergy .0 ≡ 0
+begun-zero s i l = rw (fresh-rates s) (ap (λ (w : MilliwattHours). w .0) (getD-replicate rateCount i noEnergy noEnergy l))
+
+none : (n : ℕ) → (0 + n) % totalRound ≡ n % totalRound
+none n = omega arith
+
+pub site-lives : SiteLives
+site-lives s x b hs a =
+    let y = begun s in
+    let g = going hs y (begins s x b a) in
+    record {
+      set-up = recorder-set-up s x b a;
+      simulated = rw (site-begun s x b a, recorder-made s x b a) (all hs y (begun-sound s x b a));
+      loaded = rw (site-begun s x b a) (some-load hs y);
+      table = rw (site-begun s x b a) (last-table hs y);
+      agrees = rw (site-begun s x b a) (agrees (run y hs) g);
+      energy = λ i l. rw (site-begun s x b a) (counted hs y (begins s x b a) (begun-rates s) i l ∙ ap (λ (n : ℕ). (n + countedAt (suc i) y hs) % totalRound) (begun-zero s i l) ∙ none (countedAt (suc i) y hs));
+    }

@@ -1,0 +1,23 @@
+use Rattle.station.proofs.Laws.{loaded-put, none-put}
+use borrow.Author.Needs.{needs}
+use Rattle.station.proofs.put_loaded.Statement.{statement}
+use Rattle.station.proofs.put_loaded.Tie as tie
+
+one-if-requires : tie.Need-one-if-requires
+one-if-requires c κs = search needs
+
+slice-write-row : tie.Need-slice-write-row
+slice-write-row c = search needs
+
+same-length : tie.Need-same-length
+same-length c = search needs
+
+returns : tie.Need-returns
+returns c = search loaded-put
+
+returns-2 : tie.Need-returns-2
+returns-2 c = search none-put
+
+pub put-loaded-spec : {M : Type 1} → statement M
+put-loaded-spec =
+    tie.close (tie.spec one-if-requires slice-write-row same-length returns returns-2)

@@ -1,0 +1,17 @@
+-- The worked tables.
+-- Assumes nothing.
+use mathlib.Core.Path.{_≡_, refl}
+use Rattle.calendar.specs.Calendar.{leapDay, yearLength, months, monthLength, realDate, dayNumber, dayOf, place, inMonth, inYear, dateOf}
+use Rattle.laws.specs.Tests.{sumBelow}
+use Rattle.tariff.specs.Table.{slotsTo, minuteOf, anyOf, allOf, countOf}
+use Rattle.tariff.specs.Judge.{dateOk, entryOk, opens, served, clash, clashIn, sound, judged}
+use Rattle.tariff.specs.Rate.{todayOf, covers, higher, ruled, applies, later, latest, rateIn, rateAt}
+use Rattle.tariff.specs.Cases.{saved, rates, ratesDue, answers, answersDue}
+
+pub worked-rates : rates ≡ ratesDue
+unfolding saved leapDay yearLength months monthLength realDate dayNumber dayOf place inMonth inYear dateOf sumBelow slotsTo minuteOf anyOf allOf countOf todayOf covers higher ruled applies later latest rateIn rateAt
+worked-rates = refl
+
+pub worked-answers : answers ≡ answersDue
+unfolding saved leapDay yearLength months monthLength realDate dayNumber dayOf place inMonth inYear dateOf sumBelow slotsTo minuteOf anyOf allOf countOf dateOk entryOk opens served clash clashIn sound judged
+worked-answers = refl

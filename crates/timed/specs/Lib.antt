@@ -1,0 +1,2 @@
+-- What the loops that are timed do.
+pub mod Timed
