@@ -2,18 +2,17 @@
 -- Assumes nothing.
 use Prim.Native.Nat.{ℕ}
 use mathlib.Core.Path.{_≡_, refl, sym, ap, _∙_}
-use mathlib.Core.Bool.{false}
-use mathlib.Core.List.{List, [], _∷_, _++_, List·Memᴰ}
+use mathlib.Core.List.{List, [], _∷_, _++_}
 use borrow.Author.Tests.{ne-eqb}
 use Rattle.store.specs.Store.{Store}
 use Rattle.recorder.specs.declared.SetUp.{SetUp}
 use Rattle.recorder.specs.declared.Event.{Event}
 use Rattle.recorder.specs.Recorder.{Mem}
 use Rattle.recorder.specs.Step.{step, run as play}
-use Rattle.recorder.specs.SetUp.{started, blank, setUp}
-use Rattle.recorder.proofs.Kept.{Sound, step-sound}
+use Rattle.recorder.specs.SetUp.{started, blank}
+use Rattle.recorder.proofs.Kept.{Sound}
 use Rattle.readout.specs.Read.{readOf, readBack}
-use Rattle.outstation.specs.Outstation.{Site, withMem, Happening, answerOf, happens}
+use Rattle.outstation.specs.Outstation.{Site, Happening, answerOf, happens}
 use Rattle.outstation.specs.SetUp.{begun, setUpSite}
 use Rattle.outstation.specs.Lives.{told, toldAll}
 use Rattle.outstation.proofs.Runs.{one, played-sound}
@@ -21,7 +20,7 @@ use Rattle.outstation.proofs.Lives.{recorder-set-up, recorder-made, site-begun,
 use Rattle.assurance.specs.Run as base
 use Rattle.assurance.specs.Run.{Call, left, sends, runAll, blocksIn}
 use Rattle.assurance.proofs.Demands.{demand-2, demand-3}
-use Rattle.assured.specs.Switched.{Asked, happening, reading, leaves, runSite, sent, blocksOf, events, calls, Switched1, Switched2, Switched3, Switched}
+use Rattle.assured.specs.Switched.{Asked, happening, reading, leaves, runSite, blocksOf, events, calls, Switched1, Switched2, Switched3, Switched}
 
 -- ---- the calls to the recorder that an outstation's amount to
 

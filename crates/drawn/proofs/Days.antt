@@ -1,8 +1,8 @@
 -- The days' lines, in the form that the proofs of the code look for.
 -- Assumes nothing.
 use Prim.Native.Nat.{ℕ, zero, suc, _+_, _*_, _%_, _≤_, _<_}
-use mathlib.Core.Path.{_≡_, refl, sym, ap, _∙_, subst}
-use mathlib.Core.Bool.{Bool, true, false, not, cond, _||_}
+use mathlib.Core.Path.{_≡_, refl, _∙_, subst}
+use mathlib.Core.Bool.{Bool, true, false, not, _||_}
 use mathlib.Core.List.{List, [], _∷_, _++_}
 use native.Mathlib.Numerals.{add-one}
 use native.Mathlib.Omega.{arith}
@@ -14,7 +14,7 @@ use Rattle.laws.proofs.Table.{length-table}
 use Rattle.laws.proofs.Rows.{Row, row-more}
 use Rattle.calendar.specs.Calendar.{dateOf}
 use Rattle.calendar.specs.Digits.{dateDigits}
-use Rattle.format.specs.Numbers.{decimal, binary, digitsIn}
+use Rattle.format.specs.Numbers.{binary, digitsIn}
 use Rattle.format.specs.Answers.{Wrote}
 use Rattle.format.proofs.Numbers.{length-digits}
 use Rattle.format.proofs.Writing.{then, wrote-as, one-byte}

@@ -1,13 +1,13 @@
 -- A week's text is at most longestWeek bytes: no entry of the table makes more than one switching time of the text.
 -- Assumes nothing.
-use Prim.Native.Nat.{ℕ, zero, suc, _+_, _*_, _≤_, _<_}
-use mathlib.Core.Path.{_≡_, refl, sym, ap, _∙_}
+use Prim.Native.Nat.{ℕ, zero, suc, _+_, _*_, _≤_}
+use mathlib.Core.Path.{_≡_, refl}
 use mathlib.Core.Bool.{Bool, true, false, cond, _&&_}
-use mathlib.Core.List.{List, [], _∷_, _++_}
+use mathlib.Core.List.{List, [], _∷_}
 use native.Mathlib.Omega.{arith}
 use lib.Dec.{eqb, leb, ltb}
 use lib.ListN.{length, drop, length-append}
-use borrow.Author.Tests.{eqb-true, eq-eqb, ne-eqb, ltb-true, ltb-false, lt-ltb, leb-true, le-leb}
+use borrow.Author.Tests.{eqb-true, ne-eqb, ltb-true, lt-ltb, leb-true, le-leb}
 use Rattle.laws.specs.Bits.{bit}
 use Rattle.laws.proofs.Split.{by-test, by-dec}
 use Rattle.laws.proofs.Bools.{and-left, and-right}
@@ -18,9 +18,9 @@ use Rattle.lines.specs.Listing.{newline, refusal}
 use Rattle.lines.proofs.Laws.{refusal-length}
 use Rattle.tariff.specs.declared.Entry.{Entry}
 use Rattle.tariff.specs.Table.{mostTimes, mostExceptions, slotsOf, isTime, isException, isDefault, minuteOf, anyOf, allOf, countOf}
-use Rattle.tariff.specs.Judge.{entryOk, served, sound, judged}
+use Rattle.tariff.specs.Judge.{entryOk, served, sound}
 use Rattle.tariff.proofs.Order.{accepted}
-use Rattle.drawn.specs.Week.{switches, switch, switchTo, timeText, timeAt, timesTo, names, typeLine, typesTo, weekText}
+use Rattle.drawn.specs.Week.{switches, switch, switchTo, timeText, timeAt, timesTo, names, typeLine, typesTo}
 use Rattle.drawn.specs.Asked.{weekJudged, dayAsked, drawnFrom, drawnOf}
 use Rattle.drawn.specs.Fits.{longestWeek, WeekFits, PrintFits}
 use Rattle.drawn.proofs.Lengths.{time-none, time-some}

@@ -1,10 +1,9 @@
 -- The lines of the day types: what the table has, and how long they are.
 -- Assumes nothing.
-use Prim.Native.Nat.{ℕ, zero, suc, _+_, _-_, _*_, _≤_, _<_}
-use mathlib.Core.Path.{_≡_, refl, sym, ap, _∙_, subst}
-use mathlib.Core.Bool.{Bool, true, false, not, cond}
+use Prim.Native.Nat.{ℕ, suc, _+_, _-_, _≤_}
+use mathlib.Core.Path.{_≡_, refl, sym, _∙_}
+use mathlib.Core.Bool.{Bool, true, false, not}
 use mathlib.Core.List.{List, [], _∷_, _++_}
-use native.Mathlib.Nat.{add-zero}
 use native.Mathlib.Numerals.{add-one}
 use native.Mathlib.Omega.{arith}
 use lib.Dec.{eqb}
@@ -16,7 +15,7 @@ use Rattle.format.proofs.Numbers.{length-digits}
 use Rattle.lines.specs.Listing.{space, newline, word}
 use Rattle.tariff.specs.declared.Entry.{Entry}
 use Rattle.tariff.specs.Table.{slotAt, slotsTo, anyOf}
-use Rattle.drawn.specs.Week.{comma, switches, switch, switchTo, minutesOfDay, clockOf, before, timeText, timeAt, timesTo, names, typeLine, typesTo}
+use Rattle.drawn.specs.Week.{switches, switch, switchTo, clockOf, before, timeText, timeAt, timesTo, names, typeLine, typesTo}
 
 -- ---- the rate that a day type switches to
 

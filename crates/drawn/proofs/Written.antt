@@ -1,13 +1,12 @@
 -- The lines of the day types written.
 -- Assumes nothing.
-use Prim.Native.Nat.{ℕ, zero, suc, _+_, _-_, _*_, _≤_, _<_}
-use mathlib.Core.Path.{_≡_, refl, sym, ap, _∙_, subst}
-use mathlib.Core.Bool.{Bool, true, false, not, cond}
+use Prim.Native.Nat.{ℕ, zero, suc, _+_, _-_, _≤_, _<_}
+use mathlib.Core.Path.{_≡_, refl, sym}
+use mathlib.Core.Bool.{Bool, true, false, not}
 use mathlib.Core.List.{List, [], _∷_, _++_}
 use native.Mathlib.Nat.{add-zero}
 use native.Mathlib.Numerals.{add-one}
 use native.Mathlib.Omega.{arith}
-use lib.Dec.{eqb}
 use lib.ListN.{length, length-append}
 use borrow.Author.Tests.{eq-eqb, ne-eqb, not-true, not-false}
 use Rattle.format.specs.Numbers.{decimal, binary, digitsIn}
@@ -16,7 +15,7 @@ use Rattle.format.proofs.Writing.{then, same, wrote-as, wrote-none, one-byte}
 use Rattle.lines.specs.Listing.{space, newline, word}
 use Rattle.tariff.specs.declared.Entry.{Entry}
 use Rattle.tariff.specs.Table.{anyOf}
-use Rattle.drawn.specs.Week.{comma, switchTo, clockOf, before, switchText, timeText, timeAt, timesTo, names, typeLine, typesTo}
+use Rattle.drawn.specs.Week.{switchTo, clockOf, before, switchText, timeText, timeAt, timesTo, names, typeLine, typesTo}
 use Rattle.drawn.proofs.Lengths.{time-some}
 
 -- ---- a time

@@ -5,7 +5,7 @@ ghost use lib.ListN.{length};
 ghost use Rattle.format.specs.Answers.{Wrote};
 ghost use Rattle.tariff.specs.Table.{tableSize, slotsOf, anyOf};
 ghost use Rattle.tariff.specs.Judge.{mostTypes};
-ghost use Rattle.drawn.specs.Week.{switches, switch, switchTo, minutesOfDay, before, switchText, timeText, timeAt, timesTo, names, typeLine, typesTo};
+ghost use Rattle.drawn.specs.Week.{switches, switch, switchTo, minutesOfDay, before, switchText, timeText, timesTo, names, typeLine, typesTo};
 use lines::NEWLINE;
 use lines::SPACE;
 use lines::put_word;

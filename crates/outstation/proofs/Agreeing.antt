@@ -1,11 +1,11 @@
 -- While a table is loaded the active rate is the one that it says at the present time.
 -- Assumes nothing.
-use Prim.Native.Nat.{ℕ, _<_, _≤_}
+use Prim.Native.Nat.{ℕ, _<_}
 use mathlib.Core.Path.{_≡_, refl, sym, ap, _∙_}
-use mathlib.Core.Bool.{Bool, true, false, not, cond, _&&_, false≢true}
+use mathlib.Core.Bool.{Bool, true, false, false≢true}
 use mathlib.Core.List.{List, [], _∷_}
 use lib.Dec.{eqb, leb}
-use borrow.Author.Tests.{eq-eqb, eqb-true, le-leb}
+use borrow.Author.Tests.{eqb-true, le-leb}
 use Rattle.laws.proofs.Bools.{both-of}
 use Rattle.laws.proofs.Split.{by-test}
 use Rattle.calendar.specs.Clock.{timesInAll}
@@ -17,14 +17,12 @@ use Rattle.recorder.specs.Effect.{flagToday, after as effect}
 use Rattle.recorder.specs.Answer.{answerOf as stepAnswer}
 use Rattle.recorder.specs.Step.{step}
 use Rattle.recorder.proofs.Kept.{Sound, step-sound}
-use Rattle.tariff.specs.Table.{slotsOf}
 use Rattle.tariff.specs.Judge.{judged}
 use Rattle.tariff.specs.Rate.{rateAt}
-use Rattle.tariff.specs.Saved.{Says, OneRate}
 use Rattle.tariff.proofs.Order.{exactly-one}
 use Rattle.outstation.specs.Outstation.{Site, withMem, Happening, of, load, isRate, tellsTime, answerOf, rateThen, switched, after, happens, run}
 use Rattle.outstation.specs.Lives.{told, Agrees}
-use Rattle.outstation.proofs.Runs.{one, played-sound, event-zero, rate-zero, table-zero}
+use Rattle.outstation.proofs.Runs.{one, played-sound, rate-zero, table-zero}
 
 -- what is kept: nothing is said where no table is loaded
 pub record Keeps (x : Site) : Type 0 where

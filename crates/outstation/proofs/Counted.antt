@@ -1,20 +1,19 @@
 -- Each rate register has the energy of the Counts accepted while its rate was active.
 -- Assumes nothing.
-use Prim.Native.Nat.{ℕ, zero, suc, _+_, _-_, _/_, _%_, _<_, _≤_}
-use mathlib.Core.Path.{_≡_, refl, sym, ap, _∙_}
+use Prim.Native.Nat.{ℕ, zero, suc, _+_, _-_, _/_, _%_, _<_}
+use mathlib.Core.Path.{_≡_, refl, ap, _∙_}
 use mathlib.Core.Bool.{Bool, true, false, cond}
 use mathlib.Core.List.{List, [], _∷_}
 use lib.Dec.{eqb}
 use lib.ListN.{length, getD, set, length-set}
 use lib.Seq.{getD-set-other, getD-set-same}
 use native.Mathlib.Omega.{arith}
-use borrow.Author.Tests.{eq-eqb, ne-eqb, eqb-true, eqb-false}
+use borrow.Author.Tests.{eq-eqb, eqb-true, eqb-false}
 use Rattle.laws.specs.Each.{each}
 use Rattle.laws.proofs.Split.{by-test}
 use Rattle.quantity.specs.declared.MilliwattHours.{MilliwattHours}
 use Rattle.quantity.specs.Units.{totalRound, energySum}
 use Rattle.calendar.specs.Clock.{secondsOfHalf}
-use Rattle.registers.specs.declared.Energy.{Energy}
 use Rattle.registers.specs.Energy.{rateCount, noEnergy, addedOf, energyCounted}
 use Rattle.recorder.specs.declared.Event.{Event}
 use Rattle.recorder.specs.declared.Event.the-variants.{Count, Clock, Off, On, Access, Meter, Reset, Rate, Reverse, Ppp}
@@ -24,7 +23,7 @@ use Rattle.recorder.specs.Effect.{flagFrom, flagToday, after as effect}
 use Rattle.recorder.specs.Answer.{answerOf as stepAnswer}
 use Rattle.recorder.specs.Step.{step}
 use Rattle.recorder.proofs.Kept.{Sound}
-use Rattle.outstation.specs.Outstation.{Site, withMem, Happening, of, load, tellsTime, answerOf, rateThen, switched, after, happens, run}
+use Rattle.outstation.specs.Outstation.{Site, Happening, of, load, tellsTime, answerOf, after, happens, run}
 use Rattle.outstation.specs.Lives.{energyIn, countedAt}
 use Rattle.outstation.proofs.Runs.{event-zero}
 use Rattle.outstation.proofs.Agreeing.{Going, goes-on}

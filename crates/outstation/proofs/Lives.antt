@@ -1,28 +1,25 @@
 -- What is proved of an outstation from its set-up on.
 -- Assumes nothing.
 use Prim.Native.Nat.{ℕ, suc, _+_, _%_, _<_}
-use mathlib.Core.Path.{_≡_, refl, sym, ap, _∙_}
-use mathlib.Core.Bool.{Bool, true, false, cond, false≢true}
+use mathlib.Core.Path.{_≡_, refl, ap, _∙_}
+use mathlib.Core.Bool.{Bool, true, false, false≢true}
 use mathlib.Core.List.{List, [], _∷_}
 use lib.Dec.{eqb}
 use lib.ListN.{length, getD, replicate, getD-replicate}
 use borrow.Author.Tests.{eq-eqb}
 use native.Mathlib.Omega.{arith}
-use Rattle.laws.proofs.Checks.{none-fails, all-pass}
+use Rattle.laws.proofs.Checks.{none-fails}
 use Rattle.laws.proofs.Split.{by-test}
 use Rattle.quantity.specs.declared.MilliwattHours.{MilliwattHours}
 use Rattle.quantity.specs.Units.{totalRound}
 use Rattle.registers.specs.Energy.{rateCount, noEnergy}
 use Rattle.store.specs.Store.{Store}
 use Rattle.recorder.specs.declared.SetUp.{SetUp}
-use Rattle.recorder.specs.declared.Event.{Event}
-use Rattle.recorder.specs.Recorder.{Mem}
-use Rattle.recorder.specs.Step.{run as play}
 use Rattle.recorder.specs.SetUp.{setUpAnswer, setUpWith, started, fresh, made, setUp}
 use Rattle.recorder.proofs.Kept.{Sound, made-sound}
 use Rattle.outstation.specs.Outstation.{Site, Happening, of, load, tellsTime, answerOf, happens, run}
 use Rattle.outstation.specs.SetUp.{siteChecks, begun, setUpSite}
-use Rattle.outstation.specs.Lives.{toldAll, tableSet, lastTable, loadedSet, someLoad, countedAt, SiteLife, SiteLives}
+use Rattle.outstation.specs.Lives.{tableSet, lastTable, loadedSet, someLoad, countedAt, SiteLives}
 use Rattle.outstation.proofs.Runs.{all}
 use Rattle.outstation.proofs.Agreeing.{Going, going, agrees}
 use Rattle.outstation.proofs.Counted.{counted}

@@ -2,11 +2,11 @@
 -- Assumes nothing.
 use Prim.Native.Nat.{ℕ}
 use mathlib.Core.Path.{_≡_, refl, sym, ap, _∙_}
-use mathlib.Core.Bool.{Bool, true, false, not, cond, _&&_, false≢true}
+use mathlib.Core.Bool.{Bool, true, false, not, cond, false≢true}
 use mathlib.Core.List.{List, [], _∷_, _++_}
 use lib.Dec.{eqb}
 use lib.ListN.{length}
-use borrow.Author.Tests.{eq-eqb, ne-eqb, eqb-true, eqb-false}
+use borrow.Author.Tests.{eqb-true, eqb-false}
 use Rattle.laws.specs.Checks.{firstFailing}
 use Rattle.laws.proofs.Split.{by-test}
 use Rattle.registers.specs.Energy.{rateOk}
@@ -21,7 +21,7 @@ use Rattle.recorder.proofs.Kept.{Sound, step-sound, sound-answer}
 use Rattle.tariff.specs.Table.{tableSize}
 use Rattle.tariff.specs.Judge.{judged}
 use Rattle.tariff.specs.Rate.{rateAt}
-use Rattle.outstation.specs.Outstation.{Site, withMem, Happening, of, load, isRate, tellsTime, asked, ownChecks, answerOf, rateThen, chosen, switched, after, happens, run}
+use Rattle.outstation.specs.Outstation.{Site, Happening, of, load, isRate, tellsTime, asked, ownChecks, answerOf, rateThen, switched, after, happens, run}
 use Rattle.outstation.specs.Lives.{moves, told, toldAll}
 
 -- ---- a Rate event at a sound recorder with power on

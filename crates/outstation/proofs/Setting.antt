@@ -2,20 +2,19 @@
 -- Assumes nothing.
 use Prim.Native.Nat.{ℕ, _*_}
 use mathlib.Core.Path.{_≡_, refl, sym, ap, _∙_}
-use mathlib.Core.Bool.{Bool, true, false, not, cond, _&&_}
-use mathlib.Core.List.{List, [], _∷_, _++_}
+use mathlib.Core.Bool.{false}
+use mathlib.Core.List.{List}
 use lib.Dec.{eqb}
 use lib.ListN.{length, replicate}
 use borrow.Author.Tests.{eq-eqb, ne-eqb, eqb-true, eqb-false, not-false}
 use native.Mathlib.Omega.{arith}
-use Rattle.laws.specs.Checks.{check, firstFailing}
+use Rattle.laws.specs.Checks.{firstFailing}
 use Rattle.laws.specs.Tests.{allTrue}
 use Rattle.laws.proofs.Checks.{none-fails}
 use Rattle.laws.proofs.Split.{by-test}
 use Rattle.calendar.specs.Clock.{halvesOfDay}
 use Rattle.store.specs.Class.{daysOf, rightLengths}
 use Rattle.store.specs.Store.{Store, store}
-use Rattle.recorder.specs.declared.Recorder.{Recorder}
 use Rattle.recorder.specs.declared.SetUp.{SetUp}
 use Rattle.recorder.specs.declared.Stepped.{Stepped}
 use Rattle.recorder.specs.Recorder.{Mem, mem}
@@ -24,7 +23,7 @@ use Rattle.recorder.specs.SetUp.{setUpTests, setUpWith, setUpAnswer, made, blan
 use Rattle.tariff.specs.Table.{tableSize}
 use Rattle.outstation.specs.declared.Answered.{Answered}
 use Rattle.outstation.specs.declared.Outstation.{Outstation}
-use Rattle.outstation.specs.Outstation.{Site, Done, done}
+use Rattle.outstation.specs.Outstation.{Done, done}
 use Rattle.outstation.specs.SetUp.{siteChecks, begun, blankOutstation, setUpSite}
 use Rattle.outstation.specs.Parts.{answered, Told, told, begunOf}
 
@@ -103,11 +102,6 @@ module _ (s : SetUp) (v t m b : List ℕ) (w : Answered) where
     set-up-done b₁ e = ap {B = Done} (λ (k : Told). done (k .answered) v₁ t₁ m₁ (k .room)) e ∙ by-set-up
 
 -- the parts by value
-pub no-room-answer : (s : SetUp) (x : Store) (d : Stepped) (v t m : List ℕ) (o : Outstation) (w : Answered)
-    → stepping d v t m ≡ setUp s x → o ≡ blankOutstation → w ≡ answered o (d .answer) → w ≡ answered blankOutstation (setUpAnswer s x)
-unfolding setUp
-no-room-answer s x d v t m o w p q u = u ∙ rw q (ap (λ (k : Stepping). answered blankOutstation (k .answer)) p)
-
 module _ (d : Stepped) (b : List ℕ) (k : Outstation) (q : k ≡ blankOutstation) (o : Outstation) (p : o ≡ record { recorder = d .recorder; loaded = k .loaded }) (w : Answered) where
   pub begun-refused : (d .answer ≡ 0 → ⊥) → w ≡ answered o (d .answer) → told w b ≡ begunOf d b
   unfolding begunOf

@@ -1,27 +1,21 @@
 -- An outstation (docs/TARIFF.md, "In the outstation"): the recorder beside its store, and a switching table that chooses its rate once one is loaded.
 use Prim.Native.Nat.{ℕ}
-use mathlib.Core.Path.{_≡_}
 use mathlib.Core.Bool.{Bool, true, false, not, cond, _&&_}
-use mathlib.Core.List.{List, [], _∷_, _++_}
+use mathlib.Core.List.{List, [], _∷_}
 use lib.Dec.{eqb}
 use lib.ListN.{length}
 use Rattle.laws.specs.Checks.{Check, check, firstFailing}
 use Rattle.recorder.specs.declared.Event.{Event}
-use Rattle.recorder.specs.declared.Stepped.{Stepped}
 use Rattle.recorder.specs.declared.Event.the-variants.{Count, Clock, Off, On, Access, Meter, Reset, Rate, Reverse, Ppp}
 use Rattle.registers.specs.Energy.{rateOk}
 use Rattle.recorder.specs.declared.Recorder.{Recorder}
 use Rattle.recorder.specs.Recorder.{Mem, mem, with}
 use Rattle.recorder.specs.Effect.{rateIs}
 use Rattle.recorder.specs.Answer.{noClass}
-use Rattle.store.specs.Store.{Store}
-use Rattle.recorder.specs.declared.SetUp.{SetUp}
-use Rattle.recorder.specs.Step.{step, run as play}
-use Rattle.recorder.specs.SetUp.{setUp}
-use Rattle.tariff.specs.Table.{tableSize, slotsOf}
+use Rattle.recorder.specs.Step.{step}
+use Rattle.tariff.specs.Table.{tableSize}
 use Rattle.tariff.specs.Judge.{judged}
 use Rattle.tariff.specs.Rate.{rateAt}
-use Rattle.tariff.specs.Saved.{Says}
 use Rattle.outstation.specs.declared.Outstation.{Outstation}
 use Rattle.outstation.specs.declared.Happening.{Happening as Told}
 use Rattle.outstation.specs.declared.Happening.the-variants.{Of as ToldOf, Load as ToldLoad}
@@ -78,10 +72,6 @@ tellsTime (Ppp a b c) = false
 abbrev pub asked : Happening → Event
 asked (of e) = e
 asked (load b) = Rate 1
-
-unfoldable pub asks : Told → Event
-asks (ToldOf e) = e
-asks ToldLoad = Rate 1
 
 abbrev pub ownChecks : Site → Happening → List Check
 ownChecks x (of e) = check (isRate e && x .loaded) 15 ∷ []

@@ -29,7 +29,8 @@ impl SetUp {
             & (self.total.0 < quantity::TOTAL_ROUND)
     }
 
-    fn answer(self, values: usize, starts: usize, marks: usize) -> u32
+    // What a set-up with a store of these lengths is answered.
+    pub fn answer(self, values: usize, starts: usize, marks: usize) -> u32
         ensures { λ r. ⌜ r ≡ setUpWith self values starts marks ⌝ }
     {
         let class = self.class;

@@ -2,9 +2,9 @@
 -- Assumes nothing.
 use Prim.Native.Nat.{ℕ, _+_, _/_, _%_, _<_, _≤_}
 use mathlib.Core.Path.{_≡_, refl, sym, ap, _∙_}
-use mathlib.Core.Bool.{Bool, true, false, not, cond, _&&_, _||_}
+use mathlib.Core.Bool.{Bool, true, false, not, _&&_, _||_}
 use mathlib.Core.List.{List}
-use lib.Dec.{eqb, ltb, leb}
+use lib.Dec.{eqb, leb}
 use lib.ListN.{length}
 use borrow.Author.Tests.{eq-eqb, eqb-true, ne-eqb, lt-ltb, le-ltb, not-true, not-false}
 use Rattle.calendar.specs.Clock.{secondsOfDay, timesInAll}
@@ -15,7 +15,7 @@ use Rattle.calendar.specs.declared.Found.the-variants.{Day, Unreal}
 use Rattle.calendar.specs.Calendar.{dayOf}
 use Rattle.calendar.specs.Digits.{isDay}
 use Rattle.tariff.specs.declared.Today.{Today}
-use Rattle.tariff.specs.Table.{Entry, secondsOfMinute, tableSize, slotsOf, isTime, minuteOf, anyOf, time, exception, weekdays, default}
+use Rattle.tariff.specs.Table.{Entry, secondsOfMinute, tableSize, slotsOf, minuteOf, anyOf, time, exception, weekdays, default}
 use Rattle.tariff.specs.Judge.{everyYear, leapYear, yearOf, dateOk, uses, opens, served, clash, clashIn, sound, judged}
 use Rattle.tariff.specs.declared.Ruler.{Ruler}
 use Rattle.tariff.specs.declared.Force.{Force}

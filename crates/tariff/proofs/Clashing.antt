@@ -8,7 +8,7 @@ use mathlib.Core.List.{List, [], _∷_, List·Memᴰ, List·Memᴰ·not-nil, Lis
 use native.Mathlib.Omega.{arith}
 use lib.Dec.{eqb, leb}
 use borrow.Author.Tests.{eqb-true, eq-eqb, le-leb, leb-true}
-use Rattle.laws.proofs.Bools.{and-left, and-right, both, both-of, bool-eq, or-split, or-some}
+use Rattle.laws.proofs.Bools.{both, both-of, bool-eq, or-split, or-some}
 use Rattle.tariff.specs.declared.Today.{Today}
 use Rattle.tariff.specs.Table.{Entry, isTime, isException, isWeekdays, isDefault, minuteOf, anyOf, exception, weekdays, default}
 use Rattle.tariff.specs.Judge.{everyYear, sameTime, sameDate, sameWeekday, clash, clashIn}

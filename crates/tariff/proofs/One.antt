@@ -2,8 +2,8 @@
 -- Assumes nothing.
 use Prim.Native.Nat.{ℕ, suc, _+_, _/_, _<_, _≤_}
 use mathlib.Core.Path.{_≡_, refl, sym, ap, _∙_}
-use mathlib.Core.Bool.{Bool, true, false, not, cond, _&&_, _||_, false≢true}
-use mathlib.Core.Logic.{_⊎_, inl, inr, ⊎-elim}
+use mathlib.Core.Bool.{Bool, true, false, not, _&&_, _||_, false≢true}
+use mathlib.Core.Logic.{_⊎_, ⊎-elim}
 use mathlib.Core.List.{List, [], _∷_, List·Memᴰ, List·Memᴰ·head, List·Memᴰ·tail, List·Memᴰ·not-nil, List·Memᴰ·cases-cons, Memᴰ·cast}
 use native.Mathlib.Omega.{arith}
 use lib.Dec.{eqb, ltb, leb}
@@ -15,7 +15,7 @@ use Rattle.laws.proofs.Split.{by-test}
 use Rattle.tariff.specs.declared.Today.{Today}
 use Rattle.tariff.specs.Table.{Entry, isTime, isException, isWeekdays, isDefault, minuteOf, anyOf, allOf, countOf, exception, weekdays, default, time, mostTimes, mostExceptions, hoursOfDay, minutesOfHour}
 use Rattle.tariff.specs.Judge.{blankOk, timeOk, exceptionOk, weekdaysOk, defaultOk, typeOk, entryOk, uses, opens, served, clashIn, sound}
-use Rattle.tariff.specs.Rate.{todayOf, minuteAt, dated, ofWeek, covers, nobody, higher, ruled, applies, markOf, later, latest, rateIn}
+use Rattle.tariff.specs.Rate.{todayOf, minuteAt, dated, ofWeek, covers, higher, ruled, applies, markOf, later, latest, rateIn}
 use Rattle.tariff.specs.Saved.{Rules, InForce, Says}
 use Rattle.tariff.proofs.Lists.{Found, or-left, any-of, all-in}
 use Rattle.tariff.proofs.Clashing.{clash-free, covers-kind, cover-clash, times-clash}

@@ -2,20 +2,17 @@
 -- Assumes nothing.
 use Prim.Native.Nat.{ℕ, _<_}
 use mathlib.Core.Path.{_≡_, refl, sym, ap, _∙_}
-use mathlib.Core.Bool.{Bool, true, false, not, cond, _&&_, _||_}
+use mathlib.Core.Bool.{true, false, cond}
 use mathlib.Core.List.{List, List·Permᴰ, Permᴰ·symm}
-use native.Mathlib.Omega.{arith}
-use lib.Dec.{eqb, ltb, leb}
+use lib.Dec.{eqb, ltb}
 use lib.ListN.{length}
 use borrow.Author.Tests.{eqb-true, eq-eqb, lt-ltb, not-false}
 use Rattle.calendar.specs.Clock.{timesInAll}
-use Rattle.laws.specs.Checks.{firstFailing}
-use Rattle.laws.proofs.Checks.{none-fails, all-pass}
-use Rattle.laws.proofs.Split.{by-test}
-use Rattle.tariff.specs.Table.{Entry, tableSize, slotsOf, isTime, isException, isDefault, anyOf, allOf, countOf}
+use Rattle.laws.proofs.Checks.{none-fails}
+use Rattle.tariff.specs.Table.{Entry, tableSize, slotsOf, isTime, isException, isDefault}
 use Rattle.tariff.specs.Judge.{entryOk, opens, served, clashIn, sound, tableChecks, judged}
 use Rattle.tariff.specs.Rate.{rateIn, rateAt}
-use Rattle.tariff.specs.Saved.{Rules, InForce, Says, OneRate, ExactlyOne, SameRates, AnyOrder}
+use Rattle.tariff.specs.Saved.{Says, ExactlyOne, AnyOrder}
 use Rattle.tariff.proofs.Lists.{all-same, perm-any, perm-all, perm-count, perm-in}
 use Rattle.tariff.proofs.Clashing.{perm-clash}
 use Rattle.tariff.proofs.One as one

@@ -1,20 +1,19 @@
 -- Two entries of one rank clash exactly where some day is covered by both.
 -- Assumes nothing.
-use Prim.Native.Nat.{ℕ, _+_, _%_, _<_, _≤_}
-use mathlib.Core.Path.{_≡_, refl, sym, ap, _∙_}
-use mathlib.Core.Bool.{Bool, true, false, cond, _&&_, _||_, false≢true}
+use Prim.Native.Nat.{ℕ, _+_, _%_, _≤_}
+use mathlib.Core.Path.{_≡_, refl, sym, _∙_}
+use mathlib.Core.Bool.{Bool, true, false, _&&_, _||_, false≢true}
 use mathlib.Core.Logic.{_⊎_, inl, inr, ⊎-elim}
 use native.Mathlib.Omega.{arith}
 use native.Mathlib.Decide.{decLt}
-use lib.Dec.{eqb, ltb, leb}
-use borrow.Author.Tests.{eqb-true, eqb-false, eq-eqb, leb-true, le-leb}
-use Rattle.calendar.specs.declared.Date.{Date}
-use Rattle.calendar.specs.Calendar.{daysInAll, realDate, dayNumber, dayOf, dateOf}
+use lib.Dec.{eqb, leb}
+use borrow.Author.Tests.{eqb-true, eq-eqb, leb-true, le-leb}
+use Rattle.calendar.specs.Calendar.{realDate, dayNumber, dayOf}
 use Rattle.calendar.specs.Digits.{isDay}
 use Rattle.calendar.proofs.Dates.{Real, real-facts, day-below, date-of-day-of}
-use Rattle.laws.proofs.Bools.{and-left, and-right, both, both-of, or-split, or-some, or-none}
+use Rattle.laws.proofs.Bools.{and-right, both, both-of, or-split, or-some, or-none}
 use Rattle.laws.proofs.Split.{by-test, by-dec}
-use Rattle.tariff.specs.Table.{Entry, isTime, isException, isWeekdays, isDefault, exception, weekdays, default, daysOfWeek}
+use Rattle.tariff.specs.Table.{Entry, isException, isWeekdays, isDefault, exception, weekdays, default, daysOfWeek}
 use Rattle.tariff.specs.Judge.{everyYear, blankOk, typeOk, timeOk, exceptionOk, weekdaysOk, defaultOk, entryOk, uses, yearOf, dateOk, sameTime, sameDate, sameWeekday, clash}
 use Rattle.tariff.specs.Rate.{weekdayOf, todayOf, dated, ofWeek, covers}
 use Rattle.tariff.specs.Saved.{SameDay, ClashIsSameDay}

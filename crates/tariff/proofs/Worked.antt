@@ -6,7 +6,7 @@ use Rattle.laws.specs.Tests.{sumBelow}
 use Rattle.tariff.specs.Table.{slotsTo, minuteOf, anyOf, allOf, countOf}
 use Rattle.tariff.specs.Judge.{dateOk, entryOk, opens, served, clash, clashIn, sound, judged}
 use Rattle.tariff.specs.Rate.{todayOf, covers, higher, ruled, applies, later, latest, rateIn, rateAt}
-use Rattle.tariff.specs.Cases.{saved, rates, ratesDue, answers, answersDue}
+use Rattle.tariff.specs.Cases.{saved, rates, ratesDue, answers, answersDue, times, dates, week, limits, limitsDue}
 
 pub worked-rates : rates ≡ ratesDue
 unfolding saved leapDay yearLength months monthLength realDate dayNumber dayOf place inMonth inYear dateOf sumBelow slotsTo minuteOf anyOf allOf countOf todayOf covers higher ruled applies later latest rateIn rateAt
@@ -15,3 +15,7 @@ worked-rates = refl
 pub worked-answers : answers ≡ answersDue
 unfolding saved leapDay yearLength months monthLength realDate dayNumber dayOf place inMonth inYear dateOf sumBelow slotsTo minuteOf anyOf allOf countOf dateOk entryOk opens served clash clashIn sound judged
 worked-answers = refl
+
+pub worked-limits : limits ≡ limitsDue
+unfolding saved times dates week leapDay yearLength months monthLength realDate dayNumber dayOf place inMonth inYear dateOf sumBelow slotsTo minuteOf anyOf allOf countOf dateOk entryOk opens served clash clashIn sound judged
+worked-limits = refl

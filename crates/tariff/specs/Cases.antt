@@ -1,5 +1,5 @@
 -- Tables worked out by hand (docs/TARIFF.md): the rates of one, and the answers to loads of others. They pin what no general theorem says: the weekday, the ranks, the limits of each field.
-use Prim.Native.Nat.{ℕ, _-_}
+use Prim.Native.Nat.{ℕ, zero, suc, _+_, _-_, _*_, _/_, _%_}
 use mathlib.Core.List.{List, [], _∷_, _++_, map}
 use lib.ListN.{length, replicate}
 use Rattle.tariff.specs.Table.{tableSize, time, exception, weekdays, default}
@@ -51,3 +51,28 @@ answers =
 
 abbrev pub answersDue : List ℕ
 answersDue = 6 ∷ 6 ∷ 0 ∷ 0 ∷ 6 ∷ 14 ∷ 14 ∷ 0 ∷ 6 ∷ 6 ∷ []
+
+-- ---- limits: a table with every slot taken, 48 times, 32 exceptions, seven weekdays and a default, its last day type 8; a 49th time for an exception; a 33rd exception for a time; day type 9; day type 0
+
+-- n times of day type 1, a half-hour apart; n exceptions of day type 8, from 1 January of every year on; the first n weekdays
+unfoldable pub times : ℕ → List ℕ
+times zero = []
+times (suc n) = times n ++ at 1 (n / 2) (30 * (n % 2)) 1
+
+unfoldable pub dates : ℕ → List ℕ
+dates zero = []
+dates (suc n) = dates n ++ on 8 everyYear (n / 31 + 1) (n % 31 + 1)
+
+unfoldable pub week : ℕ → List ℕ
+week zero = []
+week (suc n) = week n ++ from 1 (suc n) (suc n)
+
+-- so many times, day type 8's among them, and so many exceptions
+abbrev pub filled : ℕ → ℕ → List ℕ
+filled n k = at 8 0 0 2 ++ times (n - 1) ++ dates k ++ week 7 ++ else 1
+
+abbrev pub limits : List ℕ
+limits = map judged (filled 48 32 ∷ filled 49 31 ∷ filled 47 33 ∷ saved (least ++ at 9 0 0 1) ∷ saved (least ++ at 0 0 0 1) ∷ [])
+
+abbrev pub limitsDue : List ℕ
+limitsDue = 0 ∷ 6 ∷ 6 ∷ 6 ∷ 6 ∷ []

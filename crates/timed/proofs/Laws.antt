@@ -1,7 +1,7 @@
 -- What each loop that is timed keeps, and what it has done at its end.
 -- Assumes nothing.
 use Prim.Native.Nat.{ℕ, _+_, _*_, _^_, _≤_, _<_}
-use mathlib.Core.Path.{_≡_, refl, sym, ap, _∙_}
+use mathlib.Core.Path.{_≡_, ap, _∙_}
 use mathlib.Core.List.{List}
 use native.Mathlib.Omega.{arith}
 use native.Mathlib.Nat.{mul-le-mul}
@@ -12,7 +12,7 @@ use Rattle.laws.specs.Each.{forTo}
 use Rattle.laws.proofs.Loop.{Loop, loop-start, loop-on, loop-done}
 use Rattle.store.specs.Store.{Store}
 use Rattle.outstation.specs.declared.Happening.{Happening}
-use Rattle.outstation.specs.declared.Happening.the-variants.{Of, Load}
+use Rattle.outstation.specs.declared.Happening.the-variants.{Load}
 use Rattle.outstation.specs.declared.Answered.{Answered}
 use Rattle.outstation.specs.Outstation.{Site, site, Done, done, happening, happens}
 use Rattle.outstation.specs.SetUp.{setUpSite}

@@ -1,7 +1,7 @@
 use Rattle.drawn.specs.Week.{changes}
 use Rattle.drawn.proofs.Days.{changes-none, changes-turn, changes-end}
 use mathlib.Core.Path.{_≡_}
-use Prim.Native.Nat.{_-_, _+_, _*_, _≤_}
+use Prim.Native.Nat.{_-_, _≤_}
 use native.Mathlib.Omega.{arith}
 use borrow.Author.Needs.{needs}
 use Rattle.drawn.proofs.changes.Statement.{statement}

@@ -1,5 +1,4 @@
 use Rattle.drawn.proofs.Answered.{asked-long, unreal-shown, unreal-length, day-shown, day-length}
-use native.Mathlib.Omega.{arith}
 use borrow.Author.Needs.{needs}
 use Rattle.drawn.proofs.drawn.Statement.{statement}
 use Rattle.drawn.proofs.drawn.Tie as tie

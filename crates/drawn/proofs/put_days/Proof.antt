@@ -3,7 +3,7 @@ use Rattle.drawn.proofs.Days.{days-start, days-on, days-end}
 use Rattle.format.specs.Answers.{Wrote}
 use lib.ListN.{length}
 use mathlib.Core.Path.{_≡_}
-use Prim.Native.Nat.{_-_, _+_, _*_, _≤_}
+use Prim.Native.Nat.{_-_, _*_, _≤_}
 use native.Mathlib.Omega.{arith}
 use borrow.Author.Needs.{needs}
 use Rattle.drawn.proofs.put_days.Statement.{statement}

@@ -1,8 +1,7 @@
 use Rattle.drawn.specs.Week.{halfMark}
 use Rattle.drawn.proofs.Days.{half-turn}
 use Rattle.laws.proofs.Rows.{Row, row-none, row-all}
-use Prim.Native.Nat.{_-_, _+_, _*_, _≤_}
-use native.Mathlib.Omega.{arith}
+use Prim.Native.Nat.{_-_}
 use borrow.Author.Needs.{needs}
 use Rattle.drawn.proofs.put_halves.Statement.{statement}
 use Rattle.drawn.proofs.put_halves.Tie as tie

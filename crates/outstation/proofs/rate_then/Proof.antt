@@ -1,10 +1,7 @@
-use Rattle.outstation.proofs.Laws.{then-none, then-kept, then-set}
+use Rattle.outstation.proofs.Laws.{then-kept, then-set}
 use borrow.Author.Needs.{needs}
 use Rattle.outstation.proofs.rate_then.Statement.{statement}
 use Rattle.outstation.proofs.rate_then.Tie as tie
-
-returns : tie.Need-returns
-returns c = search then-none
 
 rate-at-requires : tie.Need-rate-at-requires
 rate-at-requires c κs = search needs
@@ -12,11 +9,11 @@ rate-at-requires c κs = search needs
 rate-ok-requires : tie.Need-rate-ok-requires
 rate-ok-requires c κs = search needs
 
-returns-2 : tie.Need-returns-2
-returns-2 c = search then-kept
+returns : tie.Need-returns
+returns c = search then-kept
 
-returns-3 : tie.Need-returns-3
-returns-3 c = search then-set
+returns-2 : tie.Need-returns-2
+returns-2 c = search then-set
 
 pub rate-then-spec : {M : Type 1} → statement M
-rate-then-spec = tie.close (tie.spec returns rate-at-requires rate-ok-requires returns-2 returns-3)
+rate-then-spec = tie.close (tie.spec rate-at-requires rate-ok-requires returns returns-2)

@@ -2,7 +2,7 @@ use Rattle.tariff.specs.Table.{slotsTo, anyOf, slotCount}
 use Rattle.drawn.specs.Week.{names}
 use Rattle.tariff.proofs.Turns.{any-none, any-turn, any-end}
 use mathlib.Core.Path.{_≡_}
-use Prim.Native.Nat.{_-_, _+_, _*_, _≤_}
+use Prim.Native.Nat.{_-_, _≤_}
 use native.Mathlib.Omega.{arith}
 use borrow.Author.Needs.{needs}
 use Rattle.drawn.proofs.types.is_used.Statement.{statement}

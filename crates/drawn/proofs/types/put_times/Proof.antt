@@ -4,7 +4,7 @@ use Rattle.tariff.specs.Table.{slotsOf}
 use Rattle.format.specs.Answers.{Wrote}
 use lib.ListN.{length}
 use mathlib.Core.Path.{_≡_}
-use Prim.Native.Nat.{_-_, _+_, _*_, _≤_}
+use Prim.Native.Nat.{_-_, _*_, _≤_}
 use native.Mathlib.Omega.{arith}
 use borrow.Author.Needs.{needs}
 use Rattle.drawn.proofs.types.put_times.Statement.{statement}

@@ -2,7 +2,7 @@ use Rattle.tariff.specs.Table.{slotsTo, slotCount}
 use Rattle.drawn.specs.Week.{switchTo}
 use Rattle.drawn.proofs.Lengths.{switch-none, switch-turn, switch-end}
 use mathlib.Core.Path.{_≡_}
-use Prim.Native.Nat.{_-_, _+_, _*_, _≤_}
+use Prim.Native.Nat.{_-_, _≤_}
 use native.Mathlib.Omega.{arith}
 use borrow.Author.Needs.{needs}
 use Rattle.drawn.proofs.types.switch_to.Statement.{statement}

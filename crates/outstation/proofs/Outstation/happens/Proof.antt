@@ -1,4 +1,5 @@
-use Rattle.outstation.proofs.Laws.{class-refused, length-refused, happened}
+use Rattle.outstation.specs.Outstation.{happening}
+use Rattle.outstation.proofs.Laws.{class-refused, length-refused, roomy}
 use borrow.Author.Needs.{needs}
 use Rattle.outstation.proofs.Outstation.happens.Statement.{statement}
 use Rattle.outstation.proofs.Outstation.happens.Tie as tie
@@ -18,17 +19,17 @@ answered-requires-2 c κs = search needs
 returns-2 : tie.Need-returns-2
 returns-2 c = search length-refused
 
-asks-requires : tie.Need-asks-requires
-asks-requires c κs = search needs
+enum-known-what : tie.Need-enum-known-what
+enum-known-what c = search needs
 
-step-requires : tie.Need-step-requires
-step-requires c κs = search needs
+with-event-requires : tie.Need-with-event-requires
+with-event-requires c κs = search roomy
 
-decide-requires : tie.Need-decide-requires
-decide-requires c κs = search needs
+enum-told : tie.Need-enum-told
+enum-told c = search needs
 
-after-requires : tie.Need-after-requires
-after-requires c κs = search needs
+with-table-requires : tie.Need-with-table-requires
+with-table-requires c κs = search roomy
 
 same-length : tie.Need-same-length
 same-length c = search needs
@@ -43,7 +44,24 @@ same-length-4 : tie.Need-same-length-4
 same-length-4 c = search needs
 
 returns-3 : tie.Need-returns-3
-returns-3 c = happened _ _ _ _ _ _ (c .before .before .before .before .before .before .before .before .before .before .before .before .before .before .before .before .before .before .cap .ensures .0) (c .before .before .before .before .before .before .before .before .before .before .before .before .before .before .before .before .before .if1 .left) (c .before .before .before .before .before .before .before .before .before .before .before .before .before .before .before .before .if2 .left) _ _ _ (c .before .before .before .before .before .before .before .before .before .before .before .before .before .before .before .asks .ensures) _ _ _ _ (c .before .before .before .before .before .before .before .before .before .before .before .step .ensures) _ _ (c .before .before .before .decide .ensures) _ (c .after .ensures)
+unfolding happening
+returns-3 c = rw (c .before .before .before .before .before .before .before .before .before .before .before .before .what .given .1) (c .before .before .before .before .before .before .with-event .ensures)
+
+same-length-5 : tie.Need-same-length-5
+same-length-5 c = search needs
+
+same-length-6 : tie.Need-same-length-6
+same-length-6 c = search needs
+
+same-length-7 : tie.Need-same-length-7
+same-length-7 c = search needs
+
+same-length-8 : tie.Need-same-length-8
+same-length-8 c = search needs
+
+returns-4 : tie.Need-returns-4
+unfolding happening
+returns-4 c = rw (c .before .before .before .before .before .before .before .enum-told .given .1) (c .before .before .with-table .ensures)
 
 pub happens-spec : {M : Type 1} → statement M
 happens-spec =
@@ -54,12 +72,17 @@ happens-spec =
     returns
     answered-requires-2
     returns-2
-    asks-requires
-    step-requires
-    decide-requires
-    after-requires
+    enum-known-what
+    with-event-requires
+    enum-told
+    with-table-requires
     same-length
     same-length-2
     same-length-3
     same-length-4
-    returns-3)
+    returns-3
+    same-length-5
+    same-length-6
+    same-length-7
+    same-length-8
+    returns-4)

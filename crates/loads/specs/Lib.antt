@@ -1,0 +1,2 @@
+-- Loads: of the outstation, reckoned by hand.
+pub mod Loads
