@@ -1,12 +1,9 @@
 -- What each loop that is timed keeps, and what it has done at its end.
 -- Assumes nothing.
-use Prim.Native.Nat.{ℕ, _+_, _*_, _^_, _≤_, _<_}
+use Prim.Native.Nat.{ℕ, _+_, _≤_, _<_}
 use mathlib.Core.Path.{_≡_, ap, _∙_}
 use mathlib.Core.List.{List}
 use native.Mathlib.Omega.{arith}
-use native.Mathlib.Nat.{mul-le-mul}
-use mir.Syntax.{w64}
-use mir.Val.{Fits}
 use borrow.Author.Tests.{eq-eqb, ne-eqb}
 use Rattle.laws.specs.Each.{forTo}
 use Rattle.laws.proofs.Loop.{Loop, loop-start, loop-on, loop-done}
@@ -17,14 +14,12 @@ use Rattle.outstation.specs.declared.Answered.{Answered}
 use Rattle.outstation.specs.Outstation.{Site, site, Done, done, happening, happens}
 use Rattle.outstation.specs.SetUp.{setUpSite}
 use Rattle.timed.specs.declared.Course.{Course}
-use Rattle.timed.specs.Timed.{meter, begun, later, nth, coming, played, totalOf, timeOf, rateOf}
+use Rattle.timing.specs.Timed.{meter}
+use Rattle.timed.specs.Timed.{begun, later, nth, coming, played, totalOf, timeOf, rateOf}
 
 pub set-up-after : (d : Answered) (v s m b : List ℕ) (x : Store) (c : List ℕ) → done d v s m b ≡ setUpSite meter x c → site (d .outstation) v s m b ≡ begun x c
 unfolding begun
 set-up-after d v s m b x c e = ap (λ (y : Done). y .after) e
-
-pub product-fits : (a b : ℕ) → a < 2 ^ 32 → b < 2 ^ 32 → Fits w64 (a * b)
-product-fits a b h k = let q : a * b ≤ 4294967295 * 4294967295 = mul-le-mul {n₂ = 4294967295} {m₂ = 4294967295} (omega arith) (omega arith) in omega arith
 
 module _ (course : Course) (i : ℕ) where
   pub nth-load : i ≡ 0 → Load ≡ nth course i

@@ -1,25 +1,18 @@
 -- What the loops that are timed do: set-up with fixed values, a load, then events one after another, or loads, each handing outstation, store and table to the next.
 use Prim.Native.Nat.{ℕ, _*_}
 use mathlib.Core.Bool.{cond}
-use mathlib.Core.List.{List, [], _∷_}
+use mathlib.Core.List.{List}
 use lib.Dec.{eqb}
 use Rattle.laws.specs.Each.{forTo}
-use Rattle.quantity.specs.Units.{wattHours}
-use Rattle.store.specs.declared.Class.the-variants.{D}
 use Rattle.store.specs.Store.{Store}
-use Rattle.recorder.specs.declared.SetUp.{SetUp}
 use Rattle.recorder.specs.declared.Event.the-variants.{Count, Clock}
-use Rattle.recorder.specs.SetUp.{given}
 use Rattle.outstation.specs.declared.Happening.{Happening}
 use Rattle.outstation.specs.declared.Happening.the-variants.{Of, Load}
 use Rattle.outstation.specs.Outstation.{Site, happening, happens}
 use Rattle.outstation.specs.SetUp.{setUpSite}
+use Rattle.timing.specs.Timed.{meter}
 use Rattle.timed.specs.declared.Course.{Course}
 use Rattle.timed.specs.declared.Course.the-variants.{Counts, Clocks, Loads}
-
--- class d, 1 Wh a pulse, at 2000-01-01 00:00:00, all at zero
-abbrev pub meter : SetUp
-meter = given (65 ∷ 66 ∷ 67 ∷ 88 ∷ 50 ∷ 52 ∷ 48 ∷ 48 ∷ 48 ∷ 48 ∷ 49 ∷ 55 ∷ []) D (wattHours 1) 0 (wattHours 0) 0
 
 unfoldable pub begun : Store → List ℕ → Site
 begun x b = setUpSite meter x b .after

@@ -13,21 +13,11 @@ use quantity::MilliwattHours;
 use recorder::Event;
 use store::Class;
 
-// The weight of a pulse: 1 Wh.
-const PULSE: u64 = 1000;
-
 // Which events come after the load, one after another; or loads.
 pub enum Course {
     Counts,
     Clocks(u32),
     Loads,
-}
-
-// The time after i times so many seconds.
-fn time_at(by: u32, i: u32) -> u64
-    ensures { λ r. ⌜ r ≡ by * i ⌝ }
-{
-    (by as u64) * (i as u64)
 }
 
 // The i-th event: the counter goes on by one pulse each time, or the time by so many seconds.
@@ -36,7 +26,7 @@ fn later(course: Course, i: u32) -> Happening
 {
     match course {
         Course::Counts => Happening::Of(Event::Count(i)),
-        Course::Clocks(by) => Happening::Of(Event::Clock(time_at(by, i))),
+        Course::Clocks(by) => Happening::Of(Event::Clock(timing::time_at(by, i))),
         Course::Loads => Happening::Load,
     }
 }
@@ -56,9 +46,9 @@ fn begun(values: &mut [u16], starts: &mut [u32], marks: &mut [u64], table: &mut 
         ≡ begun (store (now (values .entry)) (now (starts .entry)) (now (marks .entry))) (now (table .entry)) ⌝ }
 {
     let s = Outstation::set_up(
-        [65, 66, 67, 88, 50, 52, 48, 48, 48, 48, 49, 55],
+        timing::METER,
         Class::D,
-        MilliwattHours(PULSE),
+        MilliwattHours(timing::PULSE),
         0,
         MilliwattHours(0),
         0,

@@ -14,8 +14,10 @@ use store::Class;
 
 const ALL_DAYS: u32 = Class::DAYS_D;
 
-// The weight of a pulse: 1 Wh.
-const PULSE: u64 = 1000;
+// The meter that is set up: its identifier, ABCX24000017, and the weight of a pulse, 1 Wh.
+pub const METER: [u8; 12] = [65, 66, 67, 88, 50, 52, 48, 48, 48, 48, 49, 55];
+
+pub const PULSE: u64 = 1000;
 
 // Which events come, one after another.
 pub enum Kind {
@@ -25,7 +27,7 @@ pub enum Kind {
 }
 
 // The time after i times so many seconds.
-fn time_at(by: u32, i: u32) -> u64
+pub fn time_at(by: u32, i: u32) -> u64
     ensures { λ r. ⌜ r ≡ by * i ⌝ }
 {
     (by as u64) * (i as u64)
@@ -57,7 +59,7 @@ fn begun(values: &mut [u16], starts: &mut [u32], marks: &mut [u64]) -> Recorder
         ≡ begun (store (now (values .entry)) (now (starts .entry)) (now (marks .entry))) ⌝ }
 {
     let s = Recorder::set_up(
-        [65, 66, 67, 88, 50, 52, 48, 48, 48, 48, 49, 55],
+        METER,
         Class::D,
         MilliwattHours(PULSE),
         0,
