@@ -115,6 +115,12 @@ static uint64_t once(void (*before)(struct memory *), uint64_t (*job)(struct mem
     return nanoseconds() - began;
 }
 
+/* One of so many nanoseconds in all: a short one with its tenths. */
+static void print_one(uint64_t all, uint64_t times) {
+    double one = (double)all / (double)times;
+    printf("%.*f | ", one < 100 ? 1 : 0, one);
+}
+
 int main(void) {
     uint64_t seed = SEED;
     block_length = sample_block(block, DAYS, DAY, ENDED, 1);
@@ -134,7 +140,10 @@ int main(void) {
                 return 1;
             }
         }
-        printf("| %s | %" PRIu64 " | %" PRIu64 " | %.2f |\n", jobs[i].name, library / jobs[i].times, c / jobs[i].times, (double)library / (double)c);
+        printf("| %s | ", jobs[i].name);
+        print_one(library, jobs[i].times);
+        print_one(c, jobs[i].times);
+        printf("%.2f |\n", (double)library / (double)c);
     }
     return 0;
 }
