@@ -129,22 +129,22 @@ module _ (o : Outstation) (v s m b : List ℕ) (h : Happening) (d : Answered) wh
 
 -- ---- what is decided, by value
 
-module _ (d : Decided) (rate time : ℕ) (e : Event) (b : List ℕ) where
-  pub event-early : (not (eqb (d .answer) 0) || not (d .loaded)) ≡ true → d ≡ ofEvent d rate time e b
+module _ (loaded : Bool) (d : Decided) (rate time : ℕ) (e : Event) (b : List ℕ) where
+  pub event-early : (not (eqb (d .answer) 0) || not loaded) ≡ true → d ≡ ofEvent loaded d rate time e b
   unfolding ofEvent
   event-early h = rw h
 
-  module _ (h : (not (eqb (d .answer) 0) || not (d .loaded)) ≡ false) (k : Bool) (q : k ≡ isRate e) where
-    pub event-rate : k ≡ true → _≡_ {A = Decided} (record { answer = 15; rate = rate; loaded = d .loaded }) (ofEvent d rate time e b)
+  module _ (h : (not (eqb (d .answer) 0) || not loaded) ≡ false) (k : Bool) (q : k ≡ isRate e) where
+    pub event-rate : k ≡ true → _≡_ {A = Decided} (record { answer = 15; rate = rate }) (ofEvent loaded d rate time e b)
     unfolding ofEvent
     event-rate f = rw (h, sym q ∙ f)
 
     module _ (f : k ≡ false) (t : Bool) (r : t ≡ tellsTime e) where
-      pub event-timed : t ≡ true → (n : ℕ) → n ≡ rateThen true b time (d .rate) → _≡_ {A = Decided} (record { answer = 0; rate = n; loaded = d .loaded }) (ofEvent d rate time e b)
+      pub event-timed : t ≡ true → (n : ℕ) → n ≡ rateThen true b time (d .rate) → _≡_ {A = Decided} (record { answer = 0; rate = n }) (ofEvent loaded d rate time e b)
       unfolding ofEvent
       event-timed s n g = rw (h, sym q ∙ f, sym r ∙ s, g)
 
-      pub event-plain : t ≡ false → d ≡ ofEvent d rate time e b
+      pub event-plain : t ≡ false → d ≡ ofEvent loaded d rate time e b
       unfolding ofEvent
       event-plain s = rw (h, sym q ∙ f, sym r ∙ s)
 
@@ -173,10 +173,10 @@ module _ (o : Outstation) (v s m b : List ℕ) (ok : Roomy o b) where
 
   module _ (e : Event) (a : ℕ) (z : Mem) (p : a ≡ step y e .answer) (q : z ≡ step y e .after) where
     abbrev d : Decided
-    d = record { answer = a; rate = z .recorder .energy .rate; loaded = o .loaded }
+    d = record { answer = a; rate = z .recorder .energy .rate }
 
     abbrev left : Decided → Done
-    left c = outcome (c .answer) (with z (rateIs (c .rate) (z .recorder))) (c .loaded) b
+    left c = outcome (c .answer) (with z (rateIs (c .rate) (z .recorder))) (o .loaded) b
 
     abbrev time : ℕ
     time = z .recorder .clock .time
@@ -193,14 +193,14 @@ module _ (o : Outstation) (v s m b : List ℕ) (ok : Roomy o b) where
         ∙ by-test (tellsTime e) (λ t. sym (effect-by n f ∙ rw (t, none t))) (λ t. sym (effect-by n f ∙ rw t)))
 
     timed : a ≡ 0 → o .loaded ≡ true → isRate e ≡ false → tellsTime e ≡ true
-        → left (record { answer = 0; rate = rateThen true b time (z .recorder .energy .rate); loaded = o .loaded }) ≡ happens (site o v s m b) (of e)
+        → left (record { answer = 0; rate = rateThen true b time (z .recorder .energy .rate) }) ≡ happens (site o v s m b) (of e)
     timed n l f t =
-        let g : _≡_ {A = Done} (left (record { answer = 0; rate = rateThen true b time (z .recorder .energy .rate); loaded = o .loaded })) (record { answer = 0; carried = 0; after = switched (withMem (site o v s m b) z) }) = rw l in
+        let g : _≡_ {A = Done} (left (record { answer = 0; rate = rateThen true b time (z .recorder .energy .rate) })) (record { answer = 0; carried = 0; after = switched (withMem (site o v s m b) z) }) = rw l in
         g
         ∙ ap {B = Done} (λ (k : Mem). record { answer = 0; carried = 0; after = switched (withMem (site o v s m b) k) }) q
         ∙ sym (effect-by n (no-left (isRate e) (o .loaded) f) ∙ rw t)
 
-    event-by : left (ofEvent d old time e b) ≡ happens (site o v s m b) (of e)
+    event-by : left (ofEvent (o .loaded) d old time e b) ≡ happens (site o v s m b) (of e)
     event-by =
         by-test (eqb a 0)
         (λ n.
@@ -210,23 +210,23 @@ module _ (o : Outstation) (v s m b : List ℕ) (ok : Roomy o b) where
         let h : (not (eqb a 0) || not (o .loaded)) ≡ false = rw (n, l) in
         by-test (isRate e)
         (λ f.
-        ap {B = Done} left (sym (event-rate d old time e b h (isRate e) refl f))
+        ap {B = Done} left (sym (event-rate (o .loaded) d old time e b h (isRate e) refl f))
         ∙ refusal (of e) 15 (with z (rateIs old (z .recorder))) (event-answer e a p ∙ rw (n, f, l)) (λ k. absurd (false≢true (eq-eqb 15 0 k)))
         (ap (λ (k : Mem). with k (rateIs old (k .recorder))) q ∙ put-back y e f (sym p ∙ n₁)))
         (λ f. by-test (tellsTime e)
-        (λ t. ap {B = Done} left (sym (event-timed d old time e b h (isRate e) refl f (tellsTime e) refl t (rateThen true b time (z .recorder .energy .rate)) refl)) ∙ timed n₁ l f t)
-        (λ t. ap {B = Done} left (sym (event-plain d old time e b h (isRate e) refl f (tellsTime e) refl t)) ∙ plain n₁ (no-left (isRate e) (o .loaded) f) (λ k. absurd (false≢true (sym t ∙ k))))))
-        (λ l. ap {B = Done} left (sym (event-early d old time e b (rw (n, l)))) ∙ plain n₁ (no-right (isRate e) (o .loaded) l) (λ t. l)))
+        (λ t. ap {B = Done} left (sym (event-timed (o .loaded) d old time e b h (isRate e) refl f (tellsTime e) refl t (rateThen true b time (z .recorder .energy .rate)) refl)) ∙ timed n₁ l f t)
+        (λ t. ap {B = Done} left (sym (event-plain (o .loaded) d old time e b h (isRate e) refl f (tellsTime e) refl t)) ∙ plain n₁ (no-left (isRate e) (o .loaded) f) (λ k. absurd (false≢true (sym t ∙ k))))))
+        (λ l. ap {B = Done} left (sym (event-early (o .loaded) d old time e b (rw (n, l)))) ∙ plain n₁ (no-right (isRate e) (o .loaded) l) (λ t. l)))
         (λ n.
-        ap {B = Done} left (sym (event-early d old time e b (rw n)))
+        ap {B = Done} left (sym (event-early (o .loaded) d old time e b (rw n)))
         ∙ refusal (of e) a z (event-answer e a p ∙ rw n) (eqb-false a 0 n) (q ∙ refused-stays y e (λ k. eqb-false a 0 n (p ∙ k))))
 
   pub event-happened : (e : Event) (d : Stepped) (v₁ s₁ m₁ : List ℕ) → stepping d v₁ s₁ m₁ ≡ step (mem (o .recorder) v s m) e
-      → (c : Decided) → c ≡ ofEvent (record { answer = d .answer; rate = d .recorder .energy .rate; loaded = o .loaded }) (o .recorder .energy .rate) (d .recorder .clock .time) e b
-      → (r : Answered) → r ≡ afterOf (d .recorder) c → done r v₁ s₁ m₁ b ≡ happens (site o v s m b) (of e)
+      → (c : Decided) → c ≡ ofEvent (o .loaded) (record { answer = d .answer; rate = d .recorder .energy .rate }) (o .recorder .energy .rate) (d .recorder .clock .time) e b
+      → (r : Answered) → r ≡ afterOf o (d .recorder) c → done r v₁ s₁ m₁ b ≡ happens (site o v s m b) (of e)
   event-happened e d v₁ s₁ m₁ st c t r u =
       ap {B = Done} (λ (j : Answered). done j v₁ s₁ m₁ b) u
-      ∙ ap {B = Done} (λ (j : Decided). done (afterOf (d .recorder) j) v₁ s₁ m₁ b) t
+      ∙ ap {B = Done} (λ (j : Decided). done (afterOf o (d .recorder) j) v₁ s₁ m₁ b) t
       ∙ event-by e (d .answer) (mem (d .recorder) v₁ s₁ m₁) (ap (λ (j : Stepping). j .answer) st) (ap (λ (j : Stepping). j .after) st)
 
   -- ---- a load, by what the recorder answers to a Rate

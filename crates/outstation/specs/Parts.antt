@@ -1,7 +1,7 @@
 -- What the parts of the code answer, by value: of the recorder's set-up; and of its step, what a table decides.
 use Prim.Native.Nat.{ℕ}
 use mathlib.Core.Path.{_≡_}
-use mathlib.Core.Bool.{true, false, not, cond, _||_}
+use mathlib.Core.Bool.{Bool, true, false, not, cond, _||_}
 use mathlib.Core.List.{List}
 use lib.Dec.{eqb}
 use lib.ListN.{length, replicate}
@@ -40,13 +40,12 @@ pub record Roomy (o : Outstation) (b : List ℕ) : Type 0 where
   pub class : noClass (o .recorder) ≡ false
   pub long : length b ≡ tableSize
 
--- of an event: d as the recorder's step left it, the rate before, the time after
-unfoldable pub ofEvent : Decided → ℕ → ℕ → Event → List ℕ → Decided
-ofEvent d rate time e b =
-    cond (not (eqb (d .answer) 0) || not (d .loaded)) d
-    (cond (isRate e) (record { answer = 15; rate = rate; loaded = d .loaded })
-    (cond (tellsTime e) (record { answer = 0; rate = rateThen true b time (d .rate); loaded = d .loaded }) d))
+-- of an event, with a table loaded or none: d as the recorder's step left it, the rate before, the time after
+unfoldable pub ofEvent : Bool → Decided → ℕ → ℕ → Event → List ℕ → Decided
+ofEvent loaded d rate time e b =
+    cond (not (eqb (d .answer) 0) || not loaded) d
+    (cond (isRate e) (record { answer = 15; rate = rate }) (cond (tellsTime e) (record { answer = 0; rate = rateThen true b time (d .rate) }) d))
 
--- a recorder with the rate decided
-abbrev pub afterOf : Recorder → Decided → Answered
-afterOf r d = answered (record { recorder = rateIs (d .rate) r; loaded = d .loaded }) (d .answer)
+-- the outstation with the recorder of a step, at the rate decided
+abbrev pub afterOf : Outstation → Recorder → Decided → Answered
+afterOf o r d = answered (record { recorder = rateIs (d .rate) r; loaded = o .loaded }) (d .answer)
