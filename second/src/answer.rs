@@ -13,6 +13,7 @@ pub const WRONG_FIELD: u32 = 9;
 pub const NOT_CONSISTENT: u32 = 10;
 pub const OTHER_METER: u32 = 11;
 pub const CONFLICT: u32 = 12;
+pub const HALF_HOUR_ENDED: u32 = 13;
 pub const TABLE_CLASH: u32 = 14;
 pub const TABLE_LOADED: u32 = 15;
 

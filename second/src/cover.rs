@@ -1,6 +1,7 @@
 //! The coverage table: how often each kind of call gave each answer number in the
 //! scripts of one round, and which answers that the rules allow were not reached.
 
+mod adjusting;
 mod limits;
 mod names;
 mod sides;
@@ -15,6 +16,7 @@ use crate::lives::{self, WEIGHTS};
 use crate::quantities::{KWH_DIGITS, VALUE_DIGITS};
 use crate::recorder::{Class, Recorder};
 use crate::script::{self, Player};
+use adjusting::Adjusting;
 use limits::Limits;
 use names::Names;
 use std::collections::{BTreeMap, BTreeSet};
@@ -32,7 +34,7 @@ const ASKED_DAY: &[u32] = &[DONE, WRONG_LENGTH, DAMAGED, OUT_OF_RANGE];
 
 /// Each call and the answer numbers that the rules allow it. Opening is always lent the right
 /// length by a script, so its refusal of a wrong one can't be reached there.
-const ALLOWED: [(&str, &[u32]); 23] = [
+const ALLOWED: [(&str, &[u32]); 24] = [
     ("setup", &[DONE, WRONG_LENGTH, OUT_OF_RANGE]),
     ("count", &[DONE, WRONG_POWER, TOO_MANY_UNITS, WRONG_LENGTH, DAMAGED]),
     ("clock", TIMED),
@@ -44,6 +46,7 @@ const ALLOWED: [(&str, &[u32]); 23] = [
     ("rate", &[DONE, WRONG_POWER, WRONG_LENGTH, DAMAGED, OUT_OF_RANGE, TABLE_LOADED]),
     ("reverse", ANY_EVENT),
     ("ppp", RANGED),
+    ("adjust", &[DONE, WRONG_POWER, WRONG_TIME, WRONG_LENGTH, DAMAGED, OUT_OF_RANGE, HALF_HOUR_ENDED]),
     ("load", &[DONE, WRONG_POWER, WRONG_LENGTH, DAMAGED, OUT_OF_RANGE, TABLE_CLASH]),
     ("read", &[DONE, WRONG_POWER, WRONG_LENGTH, DAMAGED, OUT_OF_RANGE, OUTPUT_SHORT]),
     ("write", &[DONE, DAMAGED, OUTPUT_SHORT]),
@@ -150,6 +153,7 @@ struct Passed {
     names: Names,
     tables: Tables,
     switching: Switching,
+    adjusting: Adjusting,
 }
 
 impl Passed {
@@ -165,6 +169,7 @@ impl Passed {
             self.names.add(&before, line, &answer, &player);
             self.tables.add(line, &answer, &player);
             self.switching.add(&before, line, &answer, &mut player);
+            self.adjusting.add(&before, line, &answer, &mut player);
             let word = line.split(|&byte| byte == b' ').next().unwrap_or_default();
             if word == b"count" {
                 self.add_count(&before, line, &answer);
@@ -214,7 +219,8 @@ impl Passed {
         let names = self.names.told();
         let tables = self.tables.told();
         let switching = self.switching.told();
-        let told = limits && names && tables && switching;
+        let adjusting = self.adjusting.told();
+        let told = limits && names && tables && switching && adjusting;
         over == all && read == calendar::DAYS && filled == weights && told
     }
 }

@@ -1,6 +1,7 @@
 //! Generators of scripts. A life is written line by line and played at once, so that
 //! its next line can follow from where it stands; the seed alone decides it.
 
+mod adjustments;
 mod boundaries;
 mod calls;
 mod characters;
@@ -25,13 +26,13 @@ pub use tables::random_entries;
 pub use weights::WEIGHTS;
 
 use crate::block::{DEMAND_RESET, FLAGS, RATES};
-use crate::calendar;
+use crate::calendar::{self, SECONDS_PER_HALF_HOUR};
 use crate::identifier::PPP_LENGTH;
 use crate::quantities::{
     LEAST_WEIGHT, MOST_UNITS, MOST_WEIGHT, THOUSANDTHS_PER_UNIT, THOUSANDTHS_PER_WATT_HOUR, TOTAL_MODULUS,
 };
 use crate::random::Random;
-use crate::recorder::{Class, Recorder, StoreLength};
+use crate::recorder::{Class, Recorder, StoreLength, MOST_SHIFT};
 use crate::script::{Player, MOST_SCRIPT_BYTES};
 
 /// The example's identifier, and another meter's.
@@ -64,7 +65,7 @@ pub struct Script {
 type Generator = fn(u64) -> Script;
 
 /// The kinds of a round, each with the number of scripts of that kind.
-const KINDS: [(Generator, u64); 64] = [
+const KINDS: [(Generator, u64); 75] = [
     (ordinary::weeks, 16),
     (ordinary::year, 1),
     (ordinary::ledgers, 3),
@@ -110,6 +111,16 @@ const KINDS: [(Generator, u64); 64] = [
     (names::meters, 1),
     (names::refusals, 1),
     (names::marks, 1),
+    (adjustments::distances::boundaries, 1),
+    (adjustments::distances::midnights, 1),
+    (adjustments::distances::set_ups, 1),
+    (adjustments::distances::first, 1),
+    (adjustments::distances::last, 1),
+    (adjustments::marks, 1),
+    (adjustments::runs, 2),
+    (adjustments::moved_back, 1),
+    (adjustments::numbers::states, 1),
+    (adjustments::numbers::forms, 1),
     (tables::switching::weeks, 4),
     (tables::switching::calendar, 1),
     (tables::switching::dates, 1),
@@ -125,6 +136,7 @@ const KINDS: [(Generator, u64); 64] = [
     (tables::damaged::pokes, 1),
     (tables::damaged::junk, 1),
     (tables::damaged::lengths, 1),
+    (tables::adjusted::minutes, 1),
     (tables::drawn::weeks, 1),
     (tables::drawn::half_hours, 1),
     (tables::lines::garbled, 1),
@@ -229,6 +241,25 @@ impl Life {
         self.say(format!("on {time}"))
     }
 
+    /// An adjustment; zero in either of its two forms.
+    fn adjust(&mut self, seconds: i64) -> String {
+        let sign = if seconds < 0 || seconds == 0 && self.random.once_in(2) { "-" } else { "" };
+        self.say(format!("adjust {sign}{}", seconds.unsigned_abs()))
+    }
+
+    /// Seconds to adjust by: any, few, and those to the running half-hour's beginning, to its end and beside them.
+    fn random_shift(&mut self) -> i64 {
+        let passed = (self.time() % SECONDS_PER_HALF_HOUR) as i64;
+        let left = SECONDS_PER_HALF_HOUR as i64 - passed;
+        let any = self.random.below(2 * MOST_SHIFT as u64 + 1) as i64 - MOST_SHIFT;
+        *self.random.pick(&[any, any, any, any / 60, -passed, -passed - 1, left, left - 1])
+    }
+
+    fn random_adjust(&mut self) {
+        let seconds = self.random_shift();
+        self.adjust(seconds);
+    }
+
     /// A count so many pulses on.
     fn pulses(&mut self, pulses: u64) -> String {
         let counter = self.player.recorder.last.wrapping_add(pulses as u32);
@@ -280,8 +311,9 @@ impl Life {
             self.pulses(pulses);
             let last_rate = format!("rate {RATES}");
             let ppp = format!("ppp {}", self.random_ppp());
-            let events = ["access", "reverse", "reset", "rate 2", "meter 77", &last_rate, &ppp, "#", "#", "#", "#"];
-            let event = *self.random.pick(&events);
+            let events = ["access", "reverse", "reset", "rate 2", "meter 77", &last_rate, &ppp];
+            let others = ["adjust 0", "adjust -200", "#", "#", "#", "#"];
+            let event = *self.random.pick(&[&events[..], &others].concat());
             self.say(event);
             let time = (self.time() + self.random.between(1_000, 20_000)).min(end);
             self.clock(time);
@@ -315,8 +347,8 @@ fn with_ppp(ppp: &str) -> String {
     format!("{ppp}{}", &IDENTIFIER[PPP_LENGTH..])
 }
 
-/// The eleven events at their plainest, at a present time; the load last, since Rate is refused after it.
-fn plain_events(time: u64, last: u32) -> [String; 11] {
+/// The events at their plainest, at a present time; the load last, since Rate is refused after it.
+fn plain_events(time: u64, last: u32) -> [String; 12] {
     [
         format!("count {last}"),
         format!("clock @{time}"),
@@ -328,6 +360,7 @@ fn plain_events(time: u64, last: u32) -> [String; 11] {
         "rate 3".to_string(),
         "reverse".to_string(),
         "ppp Z9z".to_string(),
+        "adjust 0".to_string(),
         "load".to_string(),
     ]
 }

@@ -1,6 +1,7 @@
 //! The cases of docs/RULES.md that are reckoned by hand and its listing example. Beside them
 //! the order of the answers, what must hold of any block and any refusal, and of any life.
 
+mod adjusting;
 mod complete;
 mod deliveries;
 mod history;

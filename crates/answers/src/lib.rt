@@ -35,6 +35,9 @@ pub const OTHER_METER: u32 = 11;
 // Something else is held already.
 pub const DIFFERS: u32 = 12;
 
+// A time before the running half-hour began.
+pub const ENDED: u32 = 13;
+
 // Two entries of a switching table that cover the same day, or switch at the same time.
 pub const CLASH: u32 = 14;
 

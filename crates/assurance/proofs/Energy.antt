@@ -12,7 +12,7 @@ use Rattle.laws.specs.Tests.{sumBelow}
 use Rattle.laws.proofs.Split.{by-test, by-dec}
 use Rattle.recorder.specs.declared.SetUp.{SetUp}
 use Rattle.recorder.specs.declared.Event.{Event}
-use Rattle.recorder.specs.declared.Event.the-variants.{Count, Clock, Off, On, Access, Meter, Reset, Rate, Reverse, Ppp}
+use Rattle.recorder.specs.declared.Event.the-variants.{Count, Clock, Off, On, Access, Meter, Reset, Rate, Reverse, Ppp, Adjust}
 use Rattle.recorder.specs.Recorder.{Mem}
 use Rattle.recorder.specs.Step.{step}
 use Rattle.assurance.specs.Paper.{Paper, now}
@@ -76,6 +76,7 @@ module _ (s : SetUp) (z : Given s) where
   more-step p x k (Rate n) = none-more p (eqb (due s p (Rate n)) 0) (writes s p (Rate n)) refl
   more-step p x k Reverse = none-more p (eqb (due s p Reverse) 0) (writes s p Reverse) refl
   more-step p x k (Ppp a b c) = none-more p (eqb (due s p (Ppp a b c)) 0) (writes s p (Ppp a b c)) refl
+  more-step p x k (Adjust h) = none-more p (eqb (due s p (Adjust h)) 0) (writes s p (Adjust h)) refl
 
   -- the paper's column is the energy counted before half-hour q
   pub before-is : (q : ℕ) (es : List Event) (p : Paper) (x : Mem) → Kept s p x
@@ -98,4 +99,4 @@ pub all-before : (s : SetUp) (q : ℕ) (p : Paper) (es : List Event) → now (wr
 unfolding writtenAll countedBefore countedIn
 all-before s q p [] l = refl
 all-before s q p (e ∷ es) l =
-    rw (lt-ltb (now p) q (omega (arith, past-all s (written s p e) es .time, past-step s p e .time)), all-before s q (written s p e) es l)
+    rw (lt-ltb (now p) q (omega (arith, past-all s (written s p e) es .half, past-step s p e .half)), all-before s q (written s p e) es l)

@@ -10,9 +10,10 @@ use lib.Dec.{eqb, leb}
 use borrow.Author.Tests.{eqb-true, eqb-false, eq-eqb, leb-true, le-leb}
 use Rattle.laws.proofs.Bools.{both, or-iff}
 use Rattle.laws.proofs.Split.{by-test}
+use Rattle.registers.specs.declared.Shift.{Shift}
 use Rattle.recorder.specs.declared.SetUp.{SetUp}
 use Rattle.recorder.specs.declared.Event.{Event}
-use Rattle.recorder.specs.declared.Event.the-variants.{Count, Clock, Off, On, Access, Meter, Reset, Rate, Reverse, Ppp}
+use Rattle.recorder.specs.declared.Event.the-variants.{Count, Clock, Off, On, Access, Meter, Reset, Rate, Reverse, Ppp, Adjust}
 use Rattle.recorder.specs.Answer.{eventAnswer, wrongPower, isOn}
 use Rattle.assurance.specs.Paper.{Tape, Paper, now, today}
 use Rattle.assurance.specs.Written.{markAt, markFrom, writes, due, written, blankTape, blankPaper, writtenAll, paper}
@@ -90,6 +91,7 @@ outage-sets s d p Reset = quiet _ _ (λ h. never (cc (h .1)))
 outage-sets s d p (Rate n) = quiet _ _ (λ h. never (cc (h .1)))
 outage-sets s d p Reverse = quiet _ _ (λ h. never (cc (h .1)))
 outage-sets s d p (Ppp a b c) = quiet _ _ (λ h. never (cc (h .1)))
+outage-sets s d p (Adjust g) = quiet _ _ (λ h. never (cc (h .1)))
 
 pub outage-exactly : (s : SetUp) (es : List Event) (d : ℕ) → (paper s es .tape .flags .outage d ≡ true) ↔ Some s (Outage d) (blankPaper s) es
 unfolding blankTape
@@ -108,6 +110,7 @@ meter-sets s d p Reset = quiet _ _ (λ h. never (cc (h .1)))
 meter-sets s d p (Rate n) = quiet _ _ (λ h. never (cc (h .1)))
 meter-sets s d p Reverse = quiet _ _ (λ h. never (cc (h .1)))
 meter-sets s d p (Ppp a b c) = quiet _ _ (λ h. never (cc (h .1)))
+meter-sets s d p (Adjust g) = quiet _ _ (λ h. never (cc (h .1)))
 
 pub meter-exactly : (s : SetUp) (es : List Event) (d : ℕ) → (paper s es .tape .flags .meter d ≡ true) ↔ Some s (MeterOn d) (blankPaper s) es
 unfolding blankTape
@@ -126,6 +129,7 @@ reset-sets s d p Reset = loud (mark-iff (today p) (p .tape .flags .reset) d) (λ
 reset-sets s d p (Rate n) = quiet _ _ (λ h. never (cc (h .0)))
 reset-sets s d p Reverse = quiet _ _ (λ h. never (cc (h .0)))
 reset-sets s d p (Ppp a b c) = quiet _ _ (λ h. never (cc (h .0)))
+reset-sets s d p (Adjust g) = quiet _ _ (λ h. never (cc (h .0)))
 
 pub reset-exactly : (s : SetUp) (es : List Event) (d : ℕ) → (paper s es .tape .flags .reset d ≡ true) ↔ Some s (ResetOn d) (blankPaper s) es
 unfolding blankTape
@@ -144,6 +148,7 @@ reverse-sets s q p Reset = quiet _ _ (λ h. never (cc (h .0)))
 reverse-sets s q p (Rate n) = quiet _ _ (λ h. never (cc (h .0)))
 reverse-sets s q p Reverse = loud (mark-iff (now p) (p .tape .marks .reverse) q) (λ k. (refl, k)) (λ h. h .1)
 reverse-sets s q p (Ppp a b c) = quiet _ _ (λ h. never (cc (h .0)))
+reverse-sets s q p (Adjust g) = quiet _ _ (λ h. never (cc (h .0)))
 
 pub reverse-exactly : (s : SetUp) (es : List Event) (q : ℕ) → (paper s es .tape .marks .reverse q ≡ true) ↔ Some s (ReverseIn q) (blankPaper s) es
 unfolding blankTape
@@ -151,21 +156,23 @@ reverse-exactly s es q = exactly s (λ t. t .marks .reverse q) (ReverseIn q) (re
 
 -- ---- a Level 2 mark
 
-neither : {e : Event} → (e ≡ Access → ⊥) → (e ≡ Reset → ⊥) → ((c : ℕ) → e ≡ Meter c → ⊥) → ((a b c : ℕ) → e ≡ Ppp a b c → ⊥)
-    → (e ≡ Access) ⊎ ((e ≡ Reset) ⊎ (((c : ℕ) × (e ≡ Meter c)) ⊎ ((a : ℕ) × (b : ℕ) × (c : ℕ) × (e ≡ Ppp a b c)))) → ⊥
-neither a r m n h = ⊎-elim a (λ k. ⊎-elim r (λ j. ⊎-elim (λ i. m (i .0) (i .1)) (λ i. n (i .0) (i .1) (i .2) (i .3)) j) k) h
+neither : {e : Event} → (e ≡ Access → ⊥) → (e ≡ Reset → ⊥) → ((c : ℕ) → e ≡ Meter c → ⊥) → ((a b c : ℕ) → e ≡ Ppp a b c → ⊥) → ((g : Shift) → e ≡ Adjust g → ⊥)
+    → (e ≡ Access) ⊎ ((e ≡ Reset) ⊎ (((c : ℕ) × (e ≡ Meter c)) ⊎ (((a : ℕ) × (b : ℕ) × (c : ℕ) × (e ≡ Ppp a b c)) ⊎ ((g : Shift) × (e ≡ Adjust g))))) → ⊥
+neither a r m x j h =
+    ⊎-elim a (λ k. ⊎-elim r (λ n. ⊎-elim (λ u. m (u .0) (u .1)) (λ o. ⊎-elim (λ u. x (u .0) (u .1) (u .2) (u .3)) (λ u. j (u .0) (u .1)) o) n) k) h
 
 level2-sets : (s : SetUp) (q : ℕ) → Sets s (λ t. t .marks .level2 q) (Level2In q)
-level2-sets s q p (Count c) = quiet _ _ (λ h. neither (λ e. never (cc e)) (λ e. never (cc e)) (λ c e. never (cc e)) (λ a b c e. never (cc e)) (h .0))
-level2-sets s q p (Clock t) = quiet _ _ (λ h. neither (λ e. never (cc e)) (λ e. never (cc e)) (λ c e. never (cc e)) (λ a b c e. never (cc e)) (h .0))
-level2-sets s q p Off = quiet _ _ (λ h. neither (λ e. never (cc e)) (λ e. never (cc e)) (λ c e. never (cc e)) (λ a b c e. never (cc e)) (h .0))
-level2-sets s q p (On t) = quiet _ _ (λ h. neither (λ e. never (cc e)) (λ e. never (cc e)) (λ c e. never (cc e)) (λ a b c e. never (cc e)) (h .0))
+level2-sets s q p (Count c) = quiet _ _ (λ h. neither (λ e. never (cc e)) (λ e. never (cc e)) (λ c e. never (cc e)) (λ a b c e. never (cc e)) (λ g e. never (cc e)) (h .0))
+level2-sets s q p (Clock t) = quiet _ _ (λ h. neither (λ e. never (cc e)) (λ e. never (cc e)) (λ c e. never (cc e)) (λ a b c e. never (cc e)) (λ g e. never (cc e)) (h .0))
+level2-sets s q p Off = quiet _ _ (λ h. neither (λ e. never (cc e)) (λ e. never (cc e)) (λ c e. never (cc e)) (λ a b c e. never (cc e)) (λ g e. never (cc e)) (h .0))
+level2-sets s q p (On t) = quiet _ _ (λ h. neither (λ e. never (cc e)) (λ e. never (cc e)) (λ c e. never (cc e)) (λ a b c e. never (cc e)) (λ g e. never (cc e)) (h .0))
 level2-sets s q p Access = loud (mark-iff (now p) (p .tape .marks .level2) q) (λ k. (inl refl, k)) (λ h. h .1)
 level2-sets s q p (Meter c) = loud (mark-iff (now p) (p .tape .marks .level2) q) (λ k. (inr (inr (inl (c, refl))), k)) (λ h. h .1)
 level2-sets s q p Reset = loud (mark-iff (now p) (p .tape .marks .level2) q) (λ k. (inr (inl refl), k)) (λ h. h .1)
-level2-sets s q p (Rate n) = quiet _ _ (λ h. neither (λ e. never (cc e)) (λ e. never (cc e)) (λ c e. never (cc e)) (λ a b c e. never (cc e)) (h .0))
-level2-sets s q p Reverse = quiet _ _ (λ h. neither (λ e. never (cc e)) (λ e. never (cc e)) (λ c e. never (cc e)) (λ a b c e. never (cc e)) (h .0))
-level2-sets s q p (Ppp a b c) = loud (mark-iff (now p) (p .tape .marks .level2) q) (λ k. (inr (inr (inr (a, b, c, refl))), k)) (λ h. h .1)
+level2-sets s q p (Rate n) = quiet _ _ (λ h. neither (λ e. never (cc e)) (λ e. never (cc e)) (λ c e. never (cc e)) (λ a b c e. never (cc e)) (λ g e. never (cc e)) (h .0))
+level2-sets s q p Reverse = quiet _ _ (λ h. neither (λ e. never (cc e)) (λ e. never (cc e)) (λ c e. never (cc e)) (λ a b c e. never (cc e)) (λ g e. never (cc e)) (h .0))
+level2-sets s q p (Ppp a b c) = loud (mark-iff (now p) (p .tape .marks .level2) q) (λ k. (inr (inr (inr (inl (a, b, c, refl)))), k)) (λ h. h .1)
+level2-sets s q p (Adjust g) = loud (mark-iff (now p) (p .tape .marks .level2) q) (λ k. (inr (inr (inr (inr (g, refl)))), k)) (λ h. h .1)
 
 pub level2-exactly : (s : SetUp) (es : List Event) (q : ℕ) → (paper s es .tape .marks .level2 q ≡ true) ↔ Some s (Level2In q) (blankPaper s) es
 unfolding blankTape

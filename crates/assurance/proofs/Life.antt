@@ -25,7 +25,7 @@ use Rattle.registers.specs.Energy.{noEnergy, rateCount}
 use Rattle.registers.specs.Demand.{countRound}
 use Rattle.recorder.specs.declared.SetUp.{SetUp}
 use Rattle.recorder.specs.declared.Event.{Event}
-use Rattle.recorder.specs.declared.Event.the-variants.{Count, Clock, Off, On, Access, Meter, Reset, Rate, Reverse, Ppp}
+use Rattle.recorder.specs.declared.Event.the-variants.{Count, Clock, Off, On, Access, Meter, Reset, Rate, Reverse, Ppp, Adjust}
 use Rattle.recorder.specs.Recorder.{Mem}
 use Rattle.recorder.specs.SetUp.{setUp, made}
 use Rattle.assurance.specs.Paper.{Counts, Paper, now, today, totalAt, unitsOf, largest, historyOf}
@@ -56,6 +56,7 @@ refused-none s p Reset n = refl
 refused-none s p (Rate k) n = refl
 refused-none s p Reverse n = refl
 refused-none s p (Ppp a b c) n = refl
+refused-none s p (Adjust h) n = refl
 
 -- nothing is counted in a half-hour in which no event was accepted
 none-counted : (s : SetUp) (q : ℕ) (es : List Event) (p : Paper) → (Some s (λ p e. q ≡ now p) p es → ⊥) → countedBefore s (suc q) p es ≡ countedBefore s q p es

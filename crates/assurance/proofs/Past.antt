@@ -9,16 +9,16 @@ use borrow.Author.Tests.{eqb-true, le-ltb}
 use Rattle.laws.proofs.Split.{by-test}
 use Rattle.recorder.specs.declared.SetUp.{SetUp}
 use Rattle.recorder.specs.declared.Event.{Event}
-use Rattle.recorder.specs.declared.Event.the-variants.{Count, Clock, Off, On, Access, Meter, Reset, Rate, Reverse, Ppp}
+use Rattle.recorder.specs.declared.Event.the-variants.{Count, Clock, Off, On, Access, Meter, Reset, Rate, Reverse, Ppp, Adjust}
 use Rattle.assurance.specs.Paper.{Paper, now, today, totalAt, flagsOf}
 use Rattle.assurance.specs.Written.{addAfter, writes, due, written, writtenAll}
 use Rattle.assurance.proofs.Marking.{mark-other}
 use Rattle.assurance.proofs.Outage.{from-before}
-use Rattle.assurance.proofs.Run.{clock-time, on-time}
+use Rattle.assurance.proofs.Run.{clock-time, on-time, adjust-half}
 
--- p comes before z: what had ended at p stands at z, and the totals as each half-hour began, the running one included
+-- p comes before z, by half-hours (in one of them an Adjust may go back): what had ended at p stands at z, and the totals as each half-hour began, the running one included
 pub record Past (s : SetUp) (p z : Paper) : Type 0 where
-  pub time : p .time ≤ z .time
+  pub half : now p ≤ now z
   pub total : (h : ℕ) → h ≤ now p → totalAt s (z .tape .counts) h ≡ totalAt s (p .tape .counts) h
   pub reverse : (h : ℕ) → h < now p → z .tape .marks .reverse h ≡ p .tape .marks .reverse h
   pub level2 : (h : ℕ) → h < now p → z .tape .marks .level2 h ≡ p .tape .marks .level2 h
@@ -26,52 +26,52 @@ pub record Past (s : SetUp) (p z : Paper) : Type 0 where
 
 past-trans : (s : SetUp) (p u z : Paper) → Past s p u → Past s u z → Past s p z
 past-trans s p u z a b = record {
-  time = omega (arith, a .time, b .time);
-  total = λ h l. b .total h (omega (arith, a .time)) ∙ a .total h l;
-  reverse = λ h l. b .reverse h (omega (arith, a .time)) ∙ a .reverse h l;
-  level2 = λ h l. b .level2 h (omega (arith, a .time)) ∙ a .level2 h l;
-  flags = λ d l. b .flags d (omega (arith, a .time)) ∙ a .flags d l;
+  half = omega (arith, a .half, b .half);
+  total = λ h l. b .total h (omega (arith, a .half)) ∙ a .total h l;
+  reverse = λ h l. b .reverse h (omega (arith, a .half)) ∙ a .reverse h l;
+  level2 = λ h l. b .level2 h (omega (arith, a .half)) ∙ a .level2 h l;
+  flags = λ d l. b .flags d (omega (arith, a .half)) ∙ a .flags d l;
 }
 
 -- only the time goes on
-still : (s : SetUp) (p z : Paper) → p .time ≤ z .time → z .tape ≡ p .tape → Past s p z
-still s p z t e = record { time = t; total = λ h l. rw e; reverse = λ h l. rw e; level2 = λ h l. rw e; flags = λ d l. rw e }
+still : (s : SetUp) (p z : Paper) → now p ≤ now z → z .tape ≡ p .tape → Past s p z
+still s p z t e = record { half = t; total = λ h l. rw e; reverse = λ h l. rw e; level2 = λ h l. rw e; flags = λ d l. rw e }
 
 module _ (s : SetUp) (p : Paper) where
   past-event : (e : Event) → due s p e ≡ 0 → Past s p (writes s p e)
   unfolding totalAt flagsOf addAfter
   past-event (Count c) a = record {
-    time = omega arith;
+    half = omega arith;
     total = λ h l. rw (le-ltb (now p) h l) (omega arith);
     reverse = λ h l. refl;
     level2 = λ h l. refl;
     flags = λ d l. refl;
   }
-  past-event (Clock t) a = still s p (writes s p (Clock t)) (clock-time s p t a .0) refl
+  past-event (Clock t) a = still s p (writes s p (Clock t)) (omega (arith, clock-time s p t a .0)) refl
   past-event Off a = still s p (writes s p Off) (omega arith) refl
   past-event (On t) a = record {
-    time = on-time s p t a .0;
+    half = omega (arith, on-time s p t a .0);
     total = λ h l. refl;
     reverse = λ h l. refl;
     level2 = λ h l. refl;
     flags = λ d l. rw (from-before (today p) (t / 86400) (p .tape .flags .outage) d l);
   }
   past-event Access a = record {
-    time = omega arith;
+    half = omega arith;
     total = λ h l. refl;
     reverse = λ h l. refl;
     level2 = λ h l. mark-other (now p) (p .tape .marks .level2) h (omega arith);
     flags = λ d l. refl;
   }
   past-event (Meter c) a = record {
-    time = omega arith;
+    half = omega arith;
     total = λ h l. refl;
     reverse = λ h l. refl;
     level2 = λ h l. mark-other (now p) (p .tape .marks .level2) h (omega arith);
     flags = λ d l. rw (mark-other (today p) (p .tape .flags .meter) d (omega arith));
   }
   past-event Reset a = record {
-    time = omega arith;
+    half = omega arith;
     total = λ h l. refl;
     reverse = λ h l. refl;
     level2 = λ h l. mark-other (now p) (p .tape .marks .level2) h (omega arith);
@@ -79,17 +79,24 @@ module _ (s : SetUp) (p : Paper) where
   }
   past-event (Rate n) a = still s p (writes s p (Rate n)) (omega arith) refl
   past-event Reverse a = record {
-    time = omega arith;
+    half = omega arith;
     total = λ h l. refl;
     reverse = λ h l. mark-other (now p) (p .tape .marks .reverse) h (omega arith);
     level2 = λ h l. refl;
     flags = λ d l. refl;
   }
   past-event (Ppp a b c) ok = record {
-    time = omega arith;
+    half = omega arith;
     total = λ h l. refl;
     reverse = λ h l. refl;
     level2 = λ h l. mark-other (now p) (p .tape .marks .level2) h (omega arith);
+    flags = λ d l. refl;
+  }
+  past-event (Adjust h) a = record {
+    half = adjust-half s p h a;
+    total = λ g l. refl;
+    reverse = λ g l. refl;
+    level2 = λ g l. mark-other (now p) (p .tape .marks .level2) g (omega arith);
     flags = λ d l. refl;
   }
 

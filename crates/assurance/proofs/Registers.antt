@@ -13,7 +13,7 @@ use Rattle.laws.proofs.Split.{by-test, by-dec}
 use Rattle.calendar.specs.Clock.{halvesOfDay}
 use Rattle.recorder.specs.declared.SetUp.{SetUp}
 use Rattle.recorder.specs.declared.Event.{Event}
-use Rattle.recorder.specs.declared.Event.the-variants.{Count, Clock, Off, On, Access, Meter, Reset, Rate, Reverse, Ppp}
+use Rattle.recorder.specs.declared.Event.the-variants.{Count, Clock, Off, On, Access, Meter, Reset, Rate, Reverse, Ppp, Adjust}
 use Rattle.recorder.specs.Recorder.{Mem}
 use Rattle.recorder.specs.Answer.{eventAnswer, wrongPower}
 use Rattle.recorder.specs.Step.{step}
@@ -48,6 +48,7 @@ each-time s p Reset d = refl
 each-time s p (Rate n) d = refl
 each-time s p Reverse d = refl
 each-time s p (Ppp a b c) d = refl
+each-time s p (Adjust h) d = refl
 
 each-counter : (s : SetUp) (p : Paper) (e : Event) → due s p e ≡ 0 → writes s p e .last ≡ counterSet (p .last) e
 each-counter s p (Count c) d = refl
@@ -60,6 +61,7 @@ each-counter s p Reset d = refl
 each-counter s p (Rate n) d = refl
 each-counter s p Reverse d = refl
 each-counter s p (Ppp a b c) d = refl
+each-counter s p (Adjust h) d = refl
 
 each-rate : (s : SetUp) (p : Paper) (e : Event) → due s p e ≡ 0 → writes s p e .rate ≡ rateSet (p .rate) e
 each-rate s p (Count c) d = refl
@@ -72,6 +74,7 @@ each-rate s p Reset d = refl
 each-rate s p (Rate n) d = refl
 each-rate s p Reverse d = refl
 each-rate s p (Ppp a b c) d = refl
+each-rate s p (Adjust h) d = refl
 
 each-identifier : (s : SetUp) (p : Paper) (e : Event) → due s p e ≡ 0 → writes s p e .identifier ≡ identifierSet (p .identifier) e
 each-identifier s p (Count c) d = refl
@@ -84,8 +87,9 @@ each-identifier s p Reset d = refl
 each-identifier s p (Rate n) d = refl
 each-identifier s p Reverse d = refl
 each-identifier s p (Ppp a b c) d = refl
+each-identifier s p (Adjust h) d = refl
 
--- Clock is taken only while power is on
+-- Clock and Adjust are taken only while power is on
 each-power : (s : SetUp) (p : Paper) (e : Event) → due s p e ≡ 0 → writes s p e .on ≡ powerSet (p .on) e
 unfolding due eventAnswer wrongPower
 each-power s p (Count c) d = refl
@@ -98,6 +102,7 @@ each-power s p Reset d = refl
 each-power s p (Rate n) d = refl
 each-power s p Reverse d = refl
 each-power s p (Ppp a b c) d = refl
+each-power s p (Adjust h) d = by-test (p .on) (λ o. rw o) (λ o. absurd (let no : _≡_ {A = ℕ} 1 0 = rw o at d in omega arith))
 
 module _ (s : SetUp) (es : List Event) (p : Paper) where
   pub time-is : writtenAll s p es .time ≡ lastSet s timeSet (p .time) p es
@@ -152,6 +157,7 @@ module _ (s : SetUp) (z : Given s) (i : ℕ) where
   more-at p x k (Rate n) = same-rate i p (writes s p (Rate n)) (eqb (due s p (Rate n)) 0) (eqb (p .rate) (suc i)) refl
   more-at p x k Reverse = same-rate i p (writes s p Reverse) (eqb (due s p Reverse) 0) (eqb (p .rate) (suc i)) refl
   more-at p x k (Ppp a b c) = same-rate i p (writes s p (Ppp a b c)) (eqb (due s p (Ppp a b c)) 0) (eqb (p .rate) (suc i)) refl
+  more-at p x k (Adjust h) = same-rate i p (writes s p (Adjust h)) (eqb (due s p (Adjust h)) 0) (eqb (p .rate) (suc i)) refl
 
   pub register-is : (es : List Event) (p : Paper) (x : Mem) → Kept s p x
       → writtenAll s p es .tape .counts .rate i ≡ p .tape .counts .rate i + countedAt s (suc i) (p .rate) p es
@@ -217,6 +223,7 @@ module _ (s : SetUp) (u : ℕ → ℕ) where
   told-step p (Rate n) same b qs t = quiet-told u p (writes s p (Rate n)) (eqb (due s p (Rate n)) 0) refl b qs t
   told-step p Reverse same b qs t = quiet-told u p (writes s p Reverse) (eqb (due s p Reverse) 0) refl b qs t
   told-step p (Ppp x y z) same b qs t = quiet-told u p (writes s p (Ppp x y z)) (eqb (due s p (Ppp x y z)) 0) refl b qs t
+  told-step p (Adjust h) same b qs t = quiet-told u p (writes s p (Adjust h)) (eqb (due s p (Adjust h)) 0) refl b qs t
 
   -- what had ended stays, so the units that a Reset looks at are those of the whole life
   units-stay : (p w : Paper) → Past s p w → ((q : ℕ) → unitsOf s (w .tape .counts) q ≡ u q) → (q : ℕ) → q < now p → unitsOf s (p .tape .counts) q ≡ u q

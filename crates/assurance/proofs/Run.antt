@@ -1,12 +1,12 @@
 -- The run: after an accepted set-up and any list of events, refused ones among them, the recorder and its store are what the paper says.
 -- Assumes nothing.
-use Prim.Native.Nat.{ℕ, suc, _+_, _-_, _/_, _<_, _≤_}
-use mathlib.Core.Path.{_≡_, refl, ap, _∙_, subst}
+use Prim.Native.Nat.{ℕ, suc, _+_, _-_, _/_, _%_, _<_, _≤_}
+use mathlib.Core.Path.{_≡_, refl, sym, ap, _∙_, subst}
 use mathlib.Core.Bool.{true, false, not}
 use mathlib.Core.List.{List, [], _∷_}
 use native.Mathlib.Omega.{arith}
 use lib.Dec.{eqb, leb, ltb}
-use borrow.Author.Tests.{leb-true, ltb-true, ltb-false, eqb-true, eq-eqb, not-false}
+use borrow.Author.Tests.{leb-true, leb-false, ltb-true, ltb-false, eqb-true, eq-eqb, not-false}
 use Rattle.laws.proofs.Bools.{both}
 use Rattle.laws.proofs.Checks.{NoneFails, none-fails}
 use Rattle.laws.proofs.Split.{by-test}
@@ -14,10 +14,13 @@ use Rattle.quantity.specs.Units.{unitsFrom}
 use Rattle.store.specs.Store.{Store}
 use Rattle.registers.specs.declared.Energy.{Energy}
 use Rattle.registers.specs.Energy.{addedOf, energyCounted, rateOk}
+use Rattle.registers.specs.declared.Shift.{Shift}
+use Rattle.registers.specs.declared.Shift.the-variants.{Ahead, Back}
+use Rattle.registers.specs.Shift.{shifted}
 use Rattle.recorder.specs.declared.Identity.{Identity}
 use Rattle.recorder.specs.declared.SetUp.{SetUp}
 use Rattle.recorder.specs.declared.Event.{Event}
-use Rattle.recorder.specs.declared.Event.the-variants.{Count, Clock, Off, On, Access, Meter, Reset, Rate, Reverse, Ppp}
+use Rattle.recorder.specs.declared.Event.the-variants.{Count, Clock, Off, On, Access, Meter, Reset, Rate, Reverse, Ppp, Adjust}
 use Rattle.recorder.specs.declared.Recorder.{Recorder}
 use Rattle.recorder.specs.Recorder.{Mem, with}
 use Rattle.recorder.specs.Boundary.{advanceTo}
@@ -48,7 +51,7 @@ module _ (s : SetUp) (p : Paper) where
 
   few : (c : ℕ) → due s p (Count c) ≡ 0 → unitsFrom (totalAt s (p .tape .counts) (now p)) (totalAt s (p .tape .counts) (suc (now p)) + energyOf s p c) ≤ mostUnits
   unfolding unitsWith
-  few c d = ltb-false mostUnits _ (none (Count c) d .1 .1 .1 .0)
+  few c d = ltb-false mostUnits _ (none (Count c) d .1 .1 .1 .1 .0)
 
   timely : (t : ℕ) → not (inTime (p .time) t) ≡ false → (p .time ≤ t) × (t < 3155760000)
   timely t e =
@@ -56,10 +59,10 @@ module _ (s : SetUp) (p : Paper) where
       (leb-true _ _ (b .0), ltb-true _ _ (b .1))
 
   pub clock-time : (t : ℕ) → due s p (Clock t) ≡ 0 → (p .time ≤ t) × (t < 3155760000)
-  clock-time t d = timely t (none (Clock t) d .1 .1 .0)
+  clock-time t d = timely t (none (Clock t) d .1 .1 .1 .0)
 
   pub on-time : (t : ℕ) → due s p (On t) ≡ 0 → (p .time ≤ t) × (t < 3155760000)
-  on-time t d = timely t (none (On t) d .1 .1 .0)
+  on-time t d = timely t (none (On t) d .1 .1 .1 .0)
 
   real-rate : (n : ℕ) → due s p (Rate n) ≡ 0 → (1 ≤ n) × (n ≤ 8)
   real-rate n d =
@@ -69,7 +72,35 @@ module _ (s : SetUp) (p : Paper) where
   real-ppp : (a b c : ℕ) → due s p (Ppp a b c) ≡ 0 → pppOk a b c ≡ true
   real-ppp a b c d = not-false (pppOk a b c) (none (Ppp a b c) d .1 .0)
 
+  begun : (n : ℕ) → due s p (Adjust (Back n)) ≡ 0 → n ≤ p .time % 1800
+  begun n d = ltb-false _ _ (none (Adjust (Back n)) d .1 .1 .0)
+
+  pub adjust-half : (h : Shift) → due s p (Adjust h) ≡ 0 → now p ≤ shifted (p .time) h / 1800
+  adjust-half (Ahead n) d = omega arith
+  adjust-half (Back n) d = omega (arith, begun n d)
+
+  adjust-time : (h : Shift) → p .time < 3155760000 → due s p (Adjust h) ≡ 0 → shifted (p .time) h < 3155760000
+  adjust-time (Ahead n) l d = leb-false _ _ (none (Adjust (Ahead n)) d .1 .1 .1 .0)
+  adjust-time (Back n) l d = omega arith
+
 -- ---- an accepted event
+
+-- time becomes t, whose half-hour has not ended
+time-kept : (s : SetUp) (p : Paper) (x : Mem) → Kept s p x → (t : ℕ) → now p ≤ t / 1800 → t < 3155760000 → Kept s (writes s p (Clock t)) (advanceTo t x)
+unfolding advanceTo
+time-kept s p x k t from to = record {
+  time = refl;
+  on = refl;
+  last = ap (λ (e : Energy). e .last) (pass-energy s (p .tape) (now p) t x (k .at) from) ∙ k .last;
+  rate = ap (λ (e : Energy). e .rate) (pass-energy s (p .tape) (now p) t x (k .at) from) ∙ k .rate;
+  name = record {
+    is = ap (λ (i : Identity). i .identifier) (pass-identity s (p .tape) (now p) t x (k .at) from) ∙ k .name .is;
+    right = k .name .right;
+    meter = k .name .meter;
+  };
+  century = to;
+  at = pass-kept s (p .tape) (now p) t x (k .at) from;
+}
 
 module _ (s : SetUp) (z : Given s) (p : Paper) (x : Mem) (k : Kept s p x) where
   abbrev q : ℕ
@@ -82,20 +113,10 @@ module _ (s : SetUp) (z : Given s) (p : Paper) (x : Mem) (k : Kept s p x) where
   today-is = omega arith
 
   passed : (t : ℕ) → (p .time ≤ t) × (t < 3155760000) → Kept s (writes s p (Clock t)) (advanceTo t x)
-  unfolding advanceTo
-  passed t l = record {
-    time = refl;
-    on = refl;
-    last = ap (λ (e : Energy). e .last) (pass-energy s (p .tape) q t x (k .at) (omega arith)) ∙ k .last;
-    rate = ap (λ (e : Energy). e .rate) (pass-energy s (p .tape) q t x (k .at) (omega arith)) ∙ k .rate;
-    name = record {
-      is = ap (λ (i : Identity). i .identifier) (pass-identity s (p .tape) q t x (k .at) (omega arith)) ∙ k .name .is;
-      right = k .name .right;
-      meter = k .name .meter;
-    };
-    century = l .1;
-    at = pass-kept s (p .tape) q t x (k .at) (omega arith);
-  }
+  passed t l = time-kept s p x k t (omega arith) (l .1)
+
+  marked : Kept s (writes s p Access) (with x (effect.accessed r))
+  marked = record { time = k .time; on = k .on; last = k .last; rate = k .rate; name = k .name; century = k .century; at = access-kept s (p .tape) q x (k .at) }
 
   counted-is : (c : ℕ) → counted q (r .energy .rate - 1) (addedOf (r .identity .weight) (r .energy .last) c .0) (p .tape) ≡ counted q (p .rate - 1) (energyOf s p c) (p .tape)
   counted-is c =
@@ -133,7 +154,7 @@ module _ (s : SetUp) (z : Given s) (p : Paper) (x : Mem) (k : Kept s p x) where
             rw (from, to)
             (outage-kept s (p .tape) (t / 1800) (p .time / 86400) (advanceTo t x) (omega (arith, k .at .clock .begun)) (omega (arith, l .0)) (y .at));
       }
-  event-kept Access d = record { time = k .time; on = k .on; last = k .last; rate = k .rate; name = k .name; century = k .century; at = access-kept s (p .tape) q x (k .at) }
+  event-kept Access d = marked
   event-kept (Meter c) d = record {
     time = k .time;
     on = k .on;
@@ -169,6 +190,9 @@ module _ (s : SetUp) (z : Given s) (p : Paper) (x : Mem) (k : Kept s p x) where
     century = k .century;
     at = access-kept s (p .tape) q _ (ppp-kept s (p .tape) q x (k .at) a b c);
   }
+  event-kept (Adjust h) d =
+      subst (λ (t : ℕ). Kept s (writes s p (Adjust h)) (advanceTo (shifted t h) (with x (effect.accessed r)))) (sym (k .time))
+      (time-kept s (writes s p Access) (with x (effect.accessed r)) marked (shifted (p .time) h) (adjust-half s p h d) (adjust-time s p h (k .century) d))
 
   -- each event, accepted or refused
   pub step-kept : (e : Event) → Kept s (written s p e) (step x e .after)

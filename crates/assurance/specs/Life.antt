@@ -122,7 +122,7 @@ module _ (s : SetUp) (x : Store) (es : List Event) where
     pub reset : (d : ℕ) → Flagged demandCleared d ↔ Happened (ResetOn d)
 
   pub record Life : Type 0 where
-    -- in range, so each answer is 1, 6, 2 or 3 exactly where the paper says, and never 4 or 5
+    -- in range, so each answer is 1, 6, 13, 2 or 3 exactly where the paper says, and never 4 or 5
     pub range : inRange (end .recorder) ≡ true
     pub answers : (e : Event) → answerOf end e ≡ due s told e
     pub ring : Ring

@@ -8,13 +8,15 @@ use mathlib.Core.List.{List, [], _∷_}
 use lib.Dec.{eqb, ltb}
 use Rattle.calendar.specs.Clock.{secondsOfDay, halvesOfDay}
 use Rattle.format.specs.Identifier.{withPpp}
+use Rattle.registers.specs.declared.Shift.{Shift}
+use Rattle.registers.specs.Shift.{shifted}
 use Rattle.recorder.specs.declared.SetUp.{SetUp}
 use Rattle.recorder.specs.declared.Event.{Event}
-use Rattle.recorder.specs.declared.Event.the-variants.{Count, Clock, Off, On, Access, Meter, Reset, Rate, Reverse, Ppp}
+use Rattle.recorder.specs.declared.Event.the-variants.{Count, Clock, Off, On, Access, Meter, Reset, Rate, Reverse, Ppp, Adjust}
 use Rattle.assurance.specs.Paper.{Paper, now, today, largest}
 use Rattle.assurance.specs.Written.{energyOf, due, written}
 
--- what each event sets: the time by Clock and On, power by Off and On, the counter's last value by Count and Meter, the active rate by Rate, the identifier's PPP by Ppp
+-- what each event sets: the time by Clock, On and Adjust, power by Off and On, the counter's last value by Count and Meter, the active rate by Rate, the identifier's PPP by Ppp
 abbrev pub timeSet : ℕ → Event → ℕ
 timeSet t (Count c) = t
 timeSet t (Clock u) = u
@@ -26,6 +28,7 @@ timeSet t Reset = t
 timeSet t (Rate n) = t
 timeSet t Reverse = t
 timeSet t (Ppp a b c) = t
+timeSet t (Adjust h) = shifted t h
 
 abbrev pub powerSet : Bool → Event → Bool
 powerSet b (Count c) = b
@@ -38,6 +41,7 @@ powerSet b Reset = b
 powerSet b (Rate n) = b
 powerSet b Reverse = b
 powerSet b (Ppp x y z) = b
+powerSet b (Adjust h) = b
 
 abbrev pub counterSet : ℕ → Event → ℕ
 counterSet l (Count c) = c
@@ -50,6 +54,7 @@ counterSet l Reset = l
 counterSet l (Rate n) = l
 counterSet l Reverse = l
 counterSet l (Ppp a b c) = l
+counterSet l (Adjust h) = l
 
 abbrev pub rateSet : ℕ → Event → ℕ
 rateSet r (Count c) = r
@@ -62,6 +67,7 @@ rateSet r Reset = r
 rateSet r (Rate n) = n
 rateSet r Reverse = r
 rateSet r (Ppp a b c) = r
+rateSet r (Adjust h) = r
 
 abbrev pub identifierSet : List ℕ → Event → List ℕ
 identifierSet id (Count c) = id
@@ -74,6 +80,7 @@ identifierSet id Reset = id
 identifierSet id (Rate n) = id
 identifierSet id Reverse = id
 identifierSet id (Ppp a b c) = withPpp (a ∷ b ∷ c ∷ []) id
+identifierSet id (Adjust h) = id
 
 module _ (s : SetUp) where
   -- the energy of an event: that of an accepted Count
@@ -88,6 +95,7 @@ module _ (s : SetUp) where
   energyIn p (Rate n) = 0
   energyIn p Reverse = 0
   energyIn p (Ppp a b c) = 0
+  energyIn p (Adjust h) = 0
 
   -- that of a list of events, and of the events before half-hour q began
   unfoldable pub countedIn : Paper → List Event → ℕ
@@ -122,6 +130,7 @@ module _ (s : SetUp) where
   isReset (Rate n) = false
   isReset Reverse = false
   isReset (Ppp a b c) = false
+  isReset (Adjust h) = false
 
   -- the half-hours of the accepted Resets, in their order
   unfoldable pub resetHalves : Paper → List Event → List ℕ
@@ -144,12 +153,12 @@ MeterOn d p e = (c : ℕ) × (e ≡ Meter c) × (d ≡ today p)
 abbrev pub ResetOn : ℕ → Paper → Event → Type 0
 ResetOn d p e = (e ≡ Reset) × (d ≡ today p)
 
--- Reverse in half-hour q; Access, Meter, Reset or Ppp in it
+-- Reverse in half-hour q; Access, Meter, Reset or Ppp in it, or an Adjust that finds it running
 abbrev pub ReverseIn : ℕ → Paper → Event → Type 0
 ReverseIn q p e = (e ≡ Reverse) × (q ≡ now p)
 
 abbrev pub Level2In : ℕ → Paper → Event → Type 0
-Level2In q p e = ((e ≡ Access) ⊎ ((e ≡ Reset) ⊎ (((c : ℕ) × (e ≡ Meter c)) ⊎ ((a : ℕ) × (b : ℕ) × (c : ℕ) × (e ≡ Ppp a b c))))) × (q ≡ now p)
+Level2In q p e = ((e ≡ Access) ⊎ ((e ≡ Reset) ⊎ (((c : ℕ) × (e ≡ Meter c)) ⊎ (((a : ℕ) × (b : ℕ) × (c : ℕ) × (e ≡ Ppp a b c)) ⊎ ((h : Shift) × (e ≡ Adjust h)))))) × (q ≡ now p)
 
 -- what each Reset found, of Resets in these half-hours: twice the largest units of a half-hour from set-up, or the Reset before, up to its own
 unfoldable pub found : (ℕ → ℕ) → ℕ → List ℕ → List ℕ

@@ -8,9 +8,10 @@ use Rattle.quantity.specs.Units.{unitsFrom}
 use Rattle.calendar.specs.Clock.{secondsOfHalf, secondsOfDay}
 use Rattle.format.specs.Identifier.{withPpp}
 use Rattle.registers.specs.Energy.{addedOf}
+use Rattle.registers.specs.Shift.{shifted}
 use Rattle.recorder.specs.declared.SetUp.{SetUp}
 use Rattle.recorder.specs.declared.Event.{Event}
-use Rattle.recorder.specs.declared.Event.the-variants.{Count, Clock, Off, On, Access, Meter, Reset, Rate, Reverse, Ppp}
+use Rattle.recorder.specs.declared.Event.the-variants.{Count, Clock, Off, On, Access, Meter, Reset, Rate, Reverse, Ppp, Adjust}
 use Rattle.recorder.specs.Answer.{eventAnswer}
 use Rattle.assurance.specs.Paper.{Tape, Paper, now, today, totalAt, peakOf}
 
@@ -97,8 +98,9 @@ writes s p Reset =
 writes s p (Rate n) = present (p .time) (p .on) (p .last) n (p .identifier) (p .tape)
 writes s p Reverse = adds p (reversed (now p) (p .tape))
 writes s p (Ppp a b c) = present (p .time) (p .on) (p .last) (p .rate) (withPpp (a ∷ b ∷ c ∷ []) (p .identifier)) (accessed (now p) (p .tape))
+writes s p (Adjust h) = present (shifted (p .time) h) true (p .last) (p .rate) (p .identifier) (accessed (now p) (p .tape))
 
--- the answer that is due: power, rate or PPP, time and units, all by the paper; and the paper after an event
+-- the answer that is due: power, rate, PPP or seconds, time and units, all by the paper; and the paper after an event
 unfoldable pub due : SetUp → Paper → Event → ℕ
 due s p e = eventAnswer (p .on) (p .time) (unitsWith s p) e
 

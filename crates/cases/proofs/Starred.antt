@@ -1,4 +1,4 @@
--- The starred cases: one statement over one list.
+-- The starred cases, and the adjustments of the clock: for each list one statement.
 -- Assumes nothing.
 use mathlib.Core.List.{map}
 use mathlib.Core.Path.{_≡_, refl}
@@ -19,7 +19,12 @@ use Rattle.recorder.specs.Step.{step, run}
 use Rattle.recorder.specs.SetUp.{setUpWith, started, fresh, blank, made, setUp}
 use Rattle.recorder.specs.Stored.{advanced}
 use Rattle.cases.specs.Cases.{Case, cases}
+use Rattle.cases.specs.Adjusts.{adjustments}
 
 pub starred : map (λ (c : Case). c .given) cases ≡ map (λ (c : Case). c .due) cases
 unfolding each allBelow leapDay months monthLength realDate freeByte identByte identTest identOk withPpp taken ratesOk addedOf unitsWith energyCounted pushAt closed opened turned flagAt flagged filled begun inRange ended closeOne advanceTo flagToday flagFrom after wrongPower eventAnswer answerWith answerOf step run setUpWith started fresh blank made setUp endedOn advanced
 starred = refl
+
+pub adjusted : map (λ (c : Case). c .given) adjustments ≡ map (λ (c : Case). c .due) adjustments
+unfolding each allBelow leapDay months monthLength realDate freeByte identByte identTest identOk withPpp taken ratesOk addedOf unitsWith energyCounted pushAt closed opened turned flagAt flagged filled begun inRange ended closeOne advanceTo flagToday flagFrom after wrongPower eventAnswer answerWith answerOf step run setUpWith started fresh blank made setUp endedOn advanced
+adjusted = refl

@@ -10,13 +10,14 @@ use Rattle.calendar.specs.Clock.{halvesOfDay, endedOn}
 use Rattle.laws.specs.Bits.{bit}
 use Rattle.quantity.specs.Units.{milliwattHours, wattHours, units, centiKilowatts, readingOf, kwhOf, demandOf}
 use Rattle.registers.specs.Energy.{pulsesOf, runningFrom, noEnergy}
+use Rattle.registers.specs.declared.Shift.the-variants.{Ahead}
 use Rattle.store.specs.declared.Class.{Class}
 use Rattle.store.specs.declared.Class.the-variants.{A, B, C, D, Blank}
 use Rattle.store.specs.Class.{completeDays, daysOf, dayWords}
 use Rattle.store.specs.Store.{Store, store}
 use Rattle.recorder.specs.declared.Recorder.{Recorder}
 use Rattle.recorder.specs.declared.Event.{Event}
-use Rattle.recorder.specs.declared.Event.the-variants.{Count, Clock, Off, On, Access, Meter, Reset, Rate, Reverse, Ppp}
+use Rattle.recorder.specs.declared.Event.the-variants.{Count, Clock, Off, On, Access, Meter, Reset, Rate, Reverse, Ppp, Adjust}
 use Rattle.recorder.specs.Recorder.{Mem, with, withClock, withEnergy, withDemand, withRunning}
 use Rattle.recorder.specs.Answer.{answerOf}
 use Rattle.recorder.specs.Step.{step, run}
@@ -146,7 +147,7 @@ beside x s = record { recorder = x .recorder; store = s }
 
 -- one event of each kind
 abbrev pub kinds : List Event
-kinds = Count 0 ∷ Clock 0 ∷ Off ∷ On 0 ∷ Access ∷ Meter 0 ∷ Reset ∷ Rate 1 ∷ Reverse ∷ Ppp 97 90 57 ∷ []
+kinds = Count 0 ∷ Clock 0 ∷ Off ∷ On 0 ∷ Access ∷ Meter 0 ∷ Reset ∷ Rate 1 ∷ Reverse ∷ Ppp 97 90 57 ∷ Adjust (Ahead 0) ∷ []
 
 abbrev pub answers : Mem → List Event → List ℕ
 answers x es = map (answerOf x) es
@@ -247,8 +248,8 @@ cases =
       due = 4 ∷ 2 ∷ [];
     }
     -- while on, On is 1; while off, any other
-    ∷ record { given = answers (meter 0 0 0 1) kinds; due = 0 ∷ 0 ∷ 0 ∷ 1 ∷ 0 ∷ 0 ∷ 0 ∷ 0 ∷ 0 ∷ 0 ∷ [] }
-    ∷ record { given = answers (next (meter 0 0 0 1) Off) kinds; due = 1 ∷ 1 ∷ 1 ∷ 0 ∷ 1 ∷ 1 ∷ 1 ∷ 1 ∷ 1 ∷ 1 ∷ [] }
+    ∷ record { given = answers (meter 0 0 0 1) kinds; due = 0 ∷ 0 ∷ 0 ∷ 1 ∷ 0 ∷ 0 ∷ 0 ∷ 0 ∷ 0 ∷ 0 ∷ 0 ∷ [] }
+    ∷ record { given = answers (next (meter 0 0 0 1) Off) kinds; due = 1 ∷ 1 ∷ 1 ∷ 0 ∷ 1 ∷ 1 ∷ 1 ∷ 1 ∷ 1 ∷ 1 ∷ 1 ∷ [] }
     -- rates 0 to 9
     ∷ record {
       given = answers (meter 0 0 0 1) (map Rate (0 ∷ 1 ∷ 2 ∷ 3 ∷ 4 ∷ 5 ∷ 6 ∷ 7 ∷ 8 ∷ 9 ∷ []));
@@ -346,13 +347,13 @@ cases =
     -- reading at the running half-hour's start 99,999,999 and 100,000,000
     ∷ record { given = based 99999999 ∷ based 100000000 ∷ []; due = 0 ∷ 5 ∷ [] }
     -- each kind of event. No real class, 5 before 4: the blank recorder with a store of class a, of no class, of no days
-    ∷ record { given = answers (record { recorder = blank; store = full }) kinds; due = replicate 10 5 }
-    ∷ record { given = answers (record { recorder = blank; store = short }) kinds; due = replicate 10 5 }
-    ∷ record { given = answers (record { recorder = blank; store = lent 0 0 0 }) kinds; due = replicate 10 5 }
+    ∷ record { given = answers (record { recorder = blank; store = full }) kinds; due = replicate 11 5 }
+    ∷ record { given = answers (record { recorder = blank; store = short }) kinds; due = replicate 11 5 }
+    ∷ record { given = answers (record { recorder = blank; store = lent 0 0 0 }) kinds; due = replicate 11 5 }
     -- 4 before 5: a store of another length, and a field out of range too
-    ∷ record { given = answers (beside (meter 0 0 0 1) short) kinds; due = replicate 10 4 }
-    ∷ record { given = answers (beside (outOfRange (meter 0 0 0 1)) short) kinds; due = replicate 10 4 }
+    ∷ record { given = answers (beside (meter 0 0 0 1) short) kinds; due = replicate 11 4 }
+    ∷ record { given = answers (beside (outOfRange (meter 0 0 0 1)) short) kinds; due = replicate 11 4 }
     -- 5 before 1: a field out of range, while on, where On would be 1, and while off, where any other would
-    ∷ record { given = answers (outOfRange (meter 0 0 0 1)) kinds; due = replicate 10 5 }
-    ∷ record { given = answers (outOfRange (next (meter 0 0 0 1) Off)) kinds; due = replicate 10 5 }
+    ∷ record { given = answers (outOfRange (meter 0 0 0 1)) kinds; due = replicate 11 5 }
+    ∷ record { given = answers (outOfRange (next (meter 0 0 0 1) Off)) kinds; due = replicate 11 5 }
     ∷ []

@@ -1,2 +1,3 @@
 -- Cases: of the recorder, reckoned by hand.
 pub mod Cases
+pub mod Adjusts

@@ -28,7 +28,7 @@ pub const EDITOR: u64 = 7;
 
 pub const TABLE_SHOWN: u64 = 8;
 
-// ---- what its first number is: the number in a word, the day, the time, a name; behind an identifier a day, or all that a set-up has; PPP, as a name
+// ---- what its first number is: the number in a word, the day, the time, a name; behind an identifier a day, or all that a set-up has; PPP, as a name; seconds with a sign, which is the second number
 
 const NUMBER: u64 = 0;
 
@@ -43,6 +43,8 @@ const ID_DAY: u64 = 4;
 const SET_UP: u64 = 5;
 
 const PPP: u64 = 6;
+
+const SIGNED: u64 = 7;
 
 // ---- limits
 
@@ -87,6 +89,7 @@ fn named(name: u64) -> Command {
             Command(METER, 0, 0, NUMBER, ANY, ANY, ANY)
         }
         names::PPP => Command(METER, 1, 1, PPP, ANY, ANY, ANY),
+        names::ADJUST => Command(METER, 1, 1, SIGNED, SMALL, ANY, ANY),
         names::DAY => Command(DAY_SHOWN, 1, 1, DAY, SMALL, ANY, ANY),
         names::LEND => Command(METER, 0, 3, NUMBER, VALUES, STARTS, MARKS),
         names::POKE => Command(METER, 2, 3, NAME, ANY, LARGE, LARGE),
@@ -157,16 +160,18 @@ fn first(what: u64, line: &[u8], n: usize) -> u64 {
         TIME => script::time_at(line, 1, n),
         NAME | PPP => script::name_at(line, 1),
         ID_DAY => script::day_at(line, 2),
+        SIGNED => words::seconds(script::word(line, 1)),
         _ => words::argument(line, 1, n),
     }
 }
 
-// The second: what an identifier pushes back is found a word later.
+// The second: what an identifier pushes back is found a word later; of seconds it is the sign.
 fn second(what: u64, line: &[u8], n: usize) -> u64 {
-    if what == ID_DAY {
-        return words::argument(line, 3, n);
+    match what {
+        ID_DAY => words::argument(line, 3, n),
+        SIGNED => words::is_back(script::word(line, 1)),
+        _ => words::argument(line, 2, n),
     }
-    words::argument(line, 2, n)
 }
 
 fn plain(kind: u64, what: u64, name: u64, line: &[u8], n: usize) -> Said {

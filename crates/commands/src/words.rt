@@ -1,5 +1,7 @@
-// Words of a line that are missing, and the class that a word names. A word that is none becomes NONE, which is larger than any number, so that the test of a
+// Words of a line that are missing, the class that a word names, and seconds with a sign. A word that is none becomes NONE, which is larger than any number, so that the test of a
 // limit refuses it too.
+
+use format::Number;
 
 // Number k of a line with n words behind its name, and 0 where word k is not among them.
 pub fn argument(line: &[u8], k: usize, n: usize) -> u64 {
@@ -33,4 +35,34 @@ pub fn class(word: &[u8]) -> u64 {
         return script::NONE;
     }
     class_of(word[0])
+}
+
+// ---- seconds, back where a `-` stands before them
+
+const MINUS: u8 = b'-';
+
+fn digits(word: &[u8]) -> &[u8] {
+    if word.len() == 0 {
+        return word;
+    }
+    if word[0] != MINUS {
+        return word;
+    }
+    &word[1..]
+}
+
+pub fn seconds(word: &[u8]) -> u64 {
+    let Number::Is(n) = script::number(digits(word)) else {
+        return script::NONE;
+    };
+    n
+}
+
+// 1 where they are back, else 0.
+pub fn is_back(word: &[u8]) -> u64 {
+    if digits(word).len() == word.len() {
+        0
+    } else {
+        1
+    }
 }

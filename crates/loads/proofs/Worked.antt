@@ -1,4 +1,4 @@
--- What happens to an outstation: one statement over one list.
+-- What happens to an outstation: one statement for each list.
 -- Assumes nothing.
 use mathlib.Core.List.{map}
 use mathlib.Core.Path.{_≡_, refl}
@@ -24,11 +24,15 @@ use Rattle.tariff.specs.Cases.{saved}
 use Rattle.outstation.specs.Outstation.{answerOf as siteAnswer, rateThen, happens, run}
 use Rattle.outstation.specs.SetUp.{setUpSite}
 use Rattle.cases.specs.Cases.{Case}
-use Rattle.loads.specs.Loads.{told, lives, order}
+use Rattle.loads.specs.Loads.{told, lives, adjustments, order}
 
 pub worked-lives : map (λ (c : Case). c .given) lives ≡ map (λ (c : Case). c .due) lives
 unfolding each allBelow sumBelow leapDay yearLength months monthLength realDate dayNumber dayOf place inMonth inYear dateOf endedOn freeByte identByte identTest identOk withPpp taken ratesOk addedOf unitsWith energyCounted pushAt closed opened turned flagAt flagged filled begun inRange ended closeOne advanceTo flagToday flagFrom after wrongPower eventAnswer answerWith answerOf step setUpWith started fresh blank made setUp slotsTo minuteOf anyOf allOf countOf dateOk entryOk opens served clash clashIn sound judged todayOf covers higher ruled applies later latest rateIn rateAt saved siteAnswer rateThen happens run setUpSite told
 worked-lives = refl
+
+pub worked-adjustments : map (λ (c : Case). c .given) adjustments ≡ map (λ (c : Case). c .due) adjustments
+unfolding each allBelow sumBelow leapDay yearLength months monthLength realDate dayNumber dayOf place inMonth inYear dateOf endedOn freeByte identByte identTest identOk withPpp taken ratesOk addedOf unitsWith energyCounted pushAt closed opened turned flagAt flagged filled begun inRange ended closeOne advanceTo flagToday flagFrom after wrongPower eventAnswer answerWith answerOf step setUpWith started fresh blank made setUp slotsTo minuteOf anyOf allOf countOf dateOk entryOk opens served clash clashIn sound judged todayOf covers higher ruled applies later latest rateIn rateAt saved siteAnswer rateThen happens run setUpSite told
+worked-adjustments = refl
 
 pub worked-order : map (λ (c : Case). c .given) order ≡ map (λ (c : Case). c .due) order
 unfolding each allBelow sumBelow leapDay yearLength months monthLength realDate dayNumber dayOf place inMonth inYear dateOf endedOn freeByte identByte identTest identOk withPpp taken ratesOk addedOf unitsWith energyCounted pushAt closed opened turned flagAt flagged filled begun inRange ended closeOne advanceTo flagToday flagFrom after wrongPower eventAnswer answerWith answerOf step setUpWith started fresh blank made setUp slotsTo minuteOf anyOf allOf countOf dateOk entryOk opens served clash clashIn sound judged todayOf covers higher ruled applies later latest rateIn rateAt saved siteAnswer rateThen happens run setUpSite told

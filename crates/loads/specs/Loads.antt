@@ -7,10 +7,11 @@ use lib.ListN.{replicate}
 use Rattle.laws.specs.Bits.{bit}
 use Rattle.quantity.specs.declared.MilliwattHours.{MilliwattHours}
 use Rattle.quantity.specs.Units.{wattHours}
+use Rattle.registers.specs.declared.Shift.the-variants.{Ahead, Back}
 use Rattle.store.specs.declared.Class.{Class}
 use Rattle.store.specs.declared.Class.the-variants.{A, Blank}
 use Rattle.store.specs.Store.{Store}
-use Rattle.recorder.specs.declared.Event.the-variants.{Count, Clock, Off, On, Access, Rate}
+use Rattle.recorder.specs.declared.Event.the-variants.{Count, Clock, Off, On, Access, Rate, Adjust}
 use Rattle.recorder.specs.Recorder.{Mem}
 use Rattle.recorder.specs.SetUp.{given, blank}
 use Rattle.recorder.specs.Stored.{flagsWord}
@@ -118,28 +119,41 @@ lives =
     ∷ record { given = let x = begun A 0 full worked .after in bit (x .loaded) ∷ rate x ∷ x .table; due = 0 ∷ 1 ∷ zeros }
     ∷ []
 
+-- ---- adjustments over a switching time
+
+-- 07:15:00, and a table with rate 1 from 00:00 and rate 2 from 07:10: back to 07:09:59 and on again; -901; back to 07:00:00, a second more, zero
+abbrev pub ten : List ℕ
+ten = saved (at 1 0 0 1 ++ at 1 7 10 2 ++ else 1)
+
+abbrev pub minutes : List Happening
+minutes =
+    load ten ∷ of (Adjust (Back 301)) ∷ of (Adjust (Ahead 301)) ∷ of (Adjust (Back 901)) ∷ of (Adjust (Back 900)) ∷ of (Adjust (Back 1)) ∷ of (Adjust (Ahead 0)) ∷ []
+
+abbrev pub adjustments : List Case
+adjustments = record { given = told (fresh 26100) minutes; due = 0 ∷ 2 ∷ 0 ∷ 1 ∷ 0 ∷ 2 ∷ 6 ∷ 2 ∷ 0 ∷ 1 ∷ 13 ∷ 1 ∷ 0 ∷ 1 ∷ [] } ∷ []
+
 -- ---- the order of the answers
 
 abbrev pub order : List Case
 order =
     -- none loaded: while on, On is 1; a table is judged
-    record { given = answers (fresh 0) (events ++ loads); due = 0 ∷ 0 ∷ 0 ∷ 1 ∷ 0 ∷ 0 ∷ 0 ∷ 0 ∷ 0 ∷ 0 ∷ 0 ∷ 14 ∷ 6 ∷ [] }
+    record { given = answers (fresh 0) (events ++ loads); due = 0 ∷ 0 ∷ 0 ∷ 1 ∷ 0 ∷ 0 ∷ 0 ∷ 0 ∷ 0 ∷ 0 ∷ 0 ∷ 0 ∷ 14 ∷ 6 ∷ [] }
     -- a table of 439 or 441 bytes; none at all
     ∷ record { given = answers (fresh 0) (load cut ∷ load long ∷ load [] ∷ []); due = 6 ∷ 6 ∷ 6 ∷ [] }
     -- one loaded: Rate is 15, and 6 before 15
-    ∷ record { given = answers (loaded (meter 0 0 0 1) seven) (events ++ loads); due = 0 ∷ 0 ∷ 0 ∷ 1 ∷ 0 ∷ 0 ∷ 0 ∷ 15 ∷ 0 ∷ 0 ∷ 0 ∷ 14 ∷ 6 ∷ [] }
+    ∷ record { given = answers (loaded (meter 0 0 0 1) seven) (events ++ loads); due = 0 ∷ 0 ∷ 0 ∷ 1 ∷ 0 ∷ 0 ∷ 0 ∷ 15 ∷ 0 ∷ 0 ∷ 0 ∷ 0 ∷ 14 ∷ 6 ∷ [] }
     ∷ record { given = answers (loaded (meter 0 0 0 1) seven) (of (Rate 0) ∷ of (Rate 8) ∷ of (Rate 9) ∷ []); due = 6 ∷ 15 ∷ 6 ∷ [] }
     -- while off, 1 before 6, 14 and 15
     ∷ record { given = answers (loaded (next (meter 0 0 0 1) Off) seven) refusable; due = replicate 5 1 }
     -- a field out of range, 5 before 1, 6, 14 and 15: while on, and while off
-    ∷ record { given = answers (loaded (outOfRange (meter 0 0 0 1)) seven) (refusable ++ events); due = replicate 15 5 }
+    ∷ record { given = answers (loaded (outOfRange (meter 0 0 0 1)) seven) (refusable ++ events); due = replicate 16 5 }
     ∷ record { given = answers (loaded (outOfRange (next (meter 0 0 0 1) Off)) seven) refusable; due = replicate 5 5 }
     -- 4 before 5: a store of another length; a room of another length
-    ∷ record { given = answers (loaded (beside (outOfRange (meter 0 0 0 1)) short) seven) (refusable ++ events); due = replicate 15 4 }
-    ∷ record { given = answers (loaded (outOfRange (meter 0 0 0 1)) cut) (refusable ++ events); due = replicate 15 4 }
+    ∷ record { given = answers (loaded (beside (outOfRange (meter 0 0 0 1)) short) seven) (refusable ++ events); due = replicate 16 4 }
+    ∷ record { given = answers (loaded (outOfRange (meter 0 0 0 1)) cut) (refusable ++ events); due = replicate 16 4 }
     -- no real class, 5 before 4: with a room of another length, and with a room and a store of their own
-    ∷ record { given = answers (loaded (record { recorder = blank; store = short }) cut) (refusable ++ events); due = replicate 15 5 }
-    ∷ record { given = answers (loaded (record { recorder = blank; store = full }) seven) (refusable ++ events); due = replicate 15 5 }
+    ∷ record { given = answers (loaded (record { recorder = blank; store = short }) cut) (refusable ++ events); due = replicate 16 5 }
+    ∷ record { given = answers (loaded (record { recorder = blank; store = full }) seven) (refusable ++ events); due = replicate 16 5 }
     -- set-up: a room of 439, 440 and 441 bytes, a store of another length; and 6 before 4
     ∷ record { given = begun A 0 full cut .answer ∷ begun A 0 full seven .answer ∷ begun A 0 full long .answer ∷ begun A 0 short seven .answer ∷ []; due = 4 ∷ 0 ∷ 4 ∷ 4 ∷ [] }
     ∷ record { given = begun Blank 0 full cut .answer ∷ begun Blank 0 short seven .answer ∷ begun Blank 0 short [] .answer ∷ []; due = 6 ∷ 6 ∷ 6 ∷ [] }

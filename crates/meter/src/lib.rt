@@ -10,6 +10,7 @@ use memory::Table;
 use memory::Values;
 use outstation::Happening;
 use recorder::Event;
+use registers::Shift;
 use script::Said;
 use script::names;
 
@@ -102,7 +103,16 @@ fn ppp(n: u64) -> Event {
     )
 }
 
-fn event(name: u64, n: u64) -> Event {
+// Seconds ahead, or back where the second number says so.
+fn shift(n: u32, back: u64) -> Shift {
+    if back == 0 {
+        Shift::Ahead(n)
+    } else {
+        Shift::Back(n)
+    }
+}
+
+fn event(name: u64, n: u64, back: u64) -> Event {
     match name {
         names::COUNT => Event::Count(memory::narrow(n)),
         names::CLOCK => Event::Clock(n),
@@ -113,6 +123,7 @@ fn event(name: u64, n: u64) -> Event {
         names::RESET => Event::Reset,
         names::RATE => Event::Rate(memory::narrow(n)),
         names::PPP => ppp(n),
+        names::ADJUST => Event::Adjust(shift(memory::narrow(n), back)),
         _ => Event::Reverse,
     }
 }
@@ -138,11 +149,11 @@ fn happens(
     )
 }
 
-fn happening(name: u64, n: u64) -> Happening {
+fn happening(name: u64, n: u64, back: u64) -> Happening {
     if name == names::LOAD {
         return Happening::Load;
     }
-    Happening::Of(event(name, n))
+    Happening::Of(event(name, n, back))
 }
 
 // How much of the editor's table is offered: all of it, or so many bytes.
@@ -164,7 +175,7 @@ fn act(
 ) -> u64 {
     let lent = memory::lent_store(row);
     happens(
-        happening(said.name, said.a),
+        happening(said.name, said.a, said.b),
         parts::part8(editor, 0, offered_length(said)),
         lent,
         row,

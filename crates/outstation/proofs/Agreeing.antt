@@ -11,7 +11,7 @@ use Rattle.laws.proofs.Split.{by-test}
 use Rattle.calendar.specs.Clock.{timesInAll}
 use Rattle.registers.specs.Energy.{rateCount, rateOk, energyCounted}
 use Rattle.recorder.specs.declared.Event.{Event}
-use Rattle.recorder.specs.declared.Event.the-variants.{Count, Clock, Off, On, Access, Meter, Reset, Rate, Reverse, Ppp}
+use Rattle.recorder.specs.declared.Event.the-variants.{Count, Clock, Off, On, Access, Meter, Reset, Rate, Reverse, Ppp, Adjust}
 use Rattle.recorder.specs.Recorder.{Mem}
 use Rattle.recorder.specs.Effect.{flagToday, after as effect}
 use Rattle.recorder.specs.Answer.{answerOf as stepAnswer}
@@ -61,6 +61,7 @@ quiet y Reset p q = by-test (eqb (stepAnswer y Reset) 0) (λ h. rw h (record { r
 quiet y (Rate n) p q = absurd (false≢true (sym p))
 quiet y Reverse p q = by-test (eqb (stepAnswer y Reverse) 0) (λ h. rw h (record { rate = refl; time = refl })) (λ h. rw h (record { rate = refl; time = refl }))
 quiet y (Ppp a b c) p q = by-test (eqb (stepAnswer y (Ppp a b c)) 0) (λ h. rw h (record { rate = refl; time = refl })) (λ h. rw h (record { rate = refl; time = refl }))
+quiet y (Adjust h) p q = absurd (false≢true (sym q))
 
 plain-keeps : (x : Site) (e : Event) → Keeps x → answerOf x (of e) ≡ 0 → tellsTime e ≡ false → Keeps (withMem x (step (x .mem) e .after))
 plain-keeps x e k z t = record {

@@ -14,12 +14,14 @@ use Rattle.laws.proofs.Split.{by-test}
 use Rattle.quantity.specs.declared.MilliwattHours.{MilliwattHours}
 use Rattle.quantity.specs.Units.{totalRound, energySum}
 use Rattle.calendar.specs.Clock.{secondsOfHalf}
+use Rattle.registers.specs.declared.Energy.{Energy}
 use Rattle.registers.specs.Energy.{rateCount, noEnergy, addedOf, energyCounted}
 use Rattle.recorder.specs.declared.Event.{Event}
-use Rattle.recorder.specs.declared.Event.the-variants.{Count, Clock, Off, On, Access, Meter, Reset, Rate, Reverse, Ppp}
-use Rattle.recorder.specs.Recorder.{Mem, halfOf}
+use Rattle.recorder.specs.declared.Event.the-variants.{Count, Clock, Off, On, Access, Meter, Reset, Rate, Reverse, Ppp, Adjust}
+use Rattle.registers.specs.Shift.{shifted}
+use Rattle.recorder.specs.Recorder.{Mem, with, halfOf}
 use Rattle.recorder.specs.Boundary.{ended, closeOne, closeAt, advanceTo}
-use Rattle.recorder.specs.Effect.{flagFrom, flagToday, after as effect}
+use Rattle.recorder.specs.Effect.{accessed, flagFrom, flagToday, after as effect}
 use Rattle.recorder.specs.Answer.{answerOf as stepAnswer}
 use Rattle.recorder.specs.Step.{step}
 use Rattle.recorder.proofs.Kept.{Sound}
@@ -33,14 +35,17 @@ ratesOf y = y .recorder .energy .rates
 
 -- ---- the registers after one event
 
-time-goes : (n i : ℕ) (y : Mem) → ratesOf (each closeAt i n y) ≡ ratesOf y
+time-goes : (n i : ℕ) (y : Mem) → each closeAt i n y .recorder .energy ≡ y .recorder .energy
 unfolding each closeOne ended
 time-goes zero i y = refl
 time-goes (suc n) i y = time-goes n (i + 1) (closeAt i y)
 
-time-rates : (t : ℕ) (y : Mem) → ratesOf (advanceTo t y) ≡ ratesOf y
+pub time-energy : (t : ℕ) (y : Mem) → advanceTo t y .recorder .energy ≡ y .recorder .energy
 unfolding advanceTo
-time-rates t y = time-goes (t / secondsOfHalf - halfOf (y .recorder)) (halfOf (y .recorder)) y
+time-energy t y = time-goes (t / secondsOfHalf - halfOf (y .recorder)) (halfOf (y .recorder)) y
+
+time-rates : (t : ℕ) (y : Mem) → ratesOf (advanceTo t y) ≡ ratesOf y
+time-rates t y = ap (λ (e : Energy). e .rates) (time-energy t y)
 
 -- what an event other than Count leaves: refused all, accepted these
 step-rates : (y : Mem) (e : Event) → ratesOf (effect y e) ≡ ratesOf y → ratesOf (step y e .after) ≡ ratesOf y
@@ -123,6 +128,7 @@ module _ (x : Site) (s : Sound (x .mem)) (l : length (ratesOf (x .mem)) ≡ rate
   moved (of (Rate n)) = stays (of (Rate n)) refl (happens-rates x (Rate n) refl)
   moved (of Reverse) = stays (of Reverse) refl (happens-rates x Reverse refl)
   moved (of (Ppp a b c)) = stays (of (Ppp a b c)) refl (happens-rates x (Ppp a b c) refl)
+  moved (of (Adjust h)) = stays (of (Adjust h)) refl (happens-rates x (Adjust h) (time-rates (shifted (x .mem .recorder .clock .time) h) (with (x .mem) (accessed (x .mem .recorder)))))
   moved (load b) = stays (load b) refl (load-rates x b)
 
 -- ---- and after all

@@ -17,7 +17,7 @@ use Rattle.store.specs.Class.{rightLengths}
 use Rattle.recorder.specs.declared.Recorder.{Recorder}
 use Rattle.recorder.specs.declared.Stepped.{Stepped}
 use Rattle.recorder.specs.declared.Event.{Event}
-use Rattle.recorder.specs.declared.Event.the-variants.{Count, Clock, Off, On, Access, Meter, Reset, Rate, Reverse, Ppp}
+use Rattle.recorder.specs.declared.Event.the-variants.{Count, Clock, Off, On, Access, Meter, Reset, Rate, Reverse, Ppp, Adjust}
 use Rattle.recorder.specs.Recorder.{Mem, mem, with, capOf}
 use Rattle.recorder.specs.Effect.{rateIs, after as effect}
 use Rattle.recorder.specs.Range.{inRange}
@@ -67,6 +67,7 @@ put-back x Reset h z = absurd (false≢true h)
 put-back x (Rate n) h z = rw (rate-leaves x n z)
 put-back x Reverse h z = absurd (false≢true h)
 put-back x (Ppp a b c) h z = absurd (false≢true h)
+put-back x (Adjust g) h z = absurd (false≢true h)
 
 -- ---- answers
 
@@ -101,11 +102,11 @@ module _ (r : Recorder) (v s m : ℕ) (c : noClass r ≡ false) (f : Bool) (q : 
       ready-done h = ready-by 0 (rw (not-false (r .clock .on) h))
 
 module _ (x : Site) (h : Happening) where
-  happens-refused : (n : ℕ) → answerOf x h ≡ n → (n ≡ 0 → ⊥) → happens x h ≡ record { answer = n; carried = 0; after = x }
+  pub happens-refused : (n : ℕ) → answerOf x h ≡ n → (n ≡ 0 → ⊥) → happens x h ≡ record { answer = n; carried = 0; after = x }
   unfolding happens
   happens-refused n p ne = rw (p, ne-eqb n 0 ne)
 
-  happens-done : answerOf x h ≡ 0 → happens x h ≡ record { answer = 0; carried = 0; after = after x h }
+  pub happens-done : answerOf x h ≡ 0 → happens x h ≡ record { answer = 0; carried = 0; after = after x h }
   unfolding happens
   happens-done p = rw p
 

@@ -11,7 +11,7 @@ use Rattle.laws.specs.Checks.{firstFailing}
 use Rattle.laws.proofs.Split.{by-test}
 use Rattle.registers.specs.Energy.{rateOk}
 use Rattle.recorder.specs.declared.Event.{Event}
-use Rattle.recorder.specs.declared.Event.the-variants.{Count, Clock, Off, On, Access, Meter, Reset, Rate, Reverse, Ppp}
+use Rattle.recorder.specs.declared.Event.the-variants.{Count, Clock, Off, On, Access, Meter, Reset, Rate, Reverse, Ppp, Adjust}
 use Rattle.recorder.specs.Recorder.{Mem, with}
 use Rattle.recorder.specs.Boundary.{advanceTo}
 use Rattle.recorder.specs.Effect.{rateIs, flagFrom, after as effect}
@@ -46,7 +46,7 @@ switch-stays : (x : Site) → x .loaded ≡ false → x .mem ≡ switched x .mem
 unfolding rateThen
 switch-stays x l = rw l
 
--- ---- after Clock and On power is on
+-- ---- after Clock, On and Adjust power is on
 
 told-on : (y : Mem) (e : Event) → tellsTime e ≡ true → step y e .answer ≡ 0 → step y e .after .recorder .clock .on ≡ true
 unfolding step effect advanceTo flagFrom
@@ -60,6 +60,7 @@ told-on y Reset h a = absurd (false≢true h)
 told-on y (Rate n) h a = absurd (false≢true h)
 told-on y Reverse h a = absurd (false≢true h)
 told-on y (Ppp a₁ b₁ c₁) h a = absurd (false≢true h)
+told-on y (Adjust g) h a = rw a
 
 -- ---- what an answer of 0 says
 

@@ -10,7 +10,7 @@ use Rattle.registers.specs.Energy.{rateCount, noEnergy, addedOf}
 use Rattle.store.specs.Store.{Store}
 use Rattle.recorder.specs.declared.SetUp.{SetUp}
 use Rattle.recorder.specs.declared.Event.{Event}
-use Rattle.recorder.specs.declared.Event.the-variants.{Count, Clock, Off, On, Access, Meter, Reset, Rate, Reverse, Ppp}
+use Rattle.recorder.specs.declared.Event.the-variants.{Count, Clock, Off, On, Access, Meter, Reset, Rate, Reverse, Ppp, Adjust}
 use Rattle.recorder.specs.Step.{step, run as play}
 use Rattle.recorder.specs.SetUp.{setUp}
 use Rattle.tariff.specs.Table.{slotsOf}
@@ -64,6 +64,7 @@ energyIn x (of Reset) = 0
 energyIn x (of (Rate n)) = 0
 energyIn x (of Reverse) = 0
 energyIn x (of (Ppp a b c)) = 0
+energyIn x (of (Adjust h)) = 0
 energyIn x (load b) = 0
 
 unfoldable pub countedAt : ℕ → Site → List Happening → ℕ

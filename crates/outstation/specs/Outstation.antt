@@ -6,7 +6,7 @@ use lib.Dec.{eqb}
 use lib.ListN.{length}
 use Rattle.laws.specs.Checks.{Check, check, firstFailing}
 use Rattle.recorder.specs.declared.Event.{Event}
-use Rattle.recorder.specs.declared.Event.the-variants.{Count, Clock, Off, On, Access, Meter, Reset, Rate, Reverse, Ppp}
+use Rattle.recorder.specs.declared.Event.the-variants.{Count, Clock, Off, On, Access, Meter, Reset, Rate, Reverse, Ppp, Adjust}
 use Rattle.registers.specs.Energy.{rateOk}
 use Rattle.recorder.specs.declared.Recorder.{Recorder}
 use Rattle.recorder.specs.Recorder.{Mem, mem, with}
@@ -53,6 +53,7 @@ isRate Reset = false
 isRate (Rate n) = true
 isRate Reverse = false
 isRate (Ppp a b c) = false
+isRate (Adjust h) = false
 
 abbrev pub tellsTime : Event → Bool
 tellsTime (Count c) = false
@@ -65,6 +66,7 @@ tellsTime Reset = false
 tellsTime (Rate n) = false
 tellsTime Reverse = false
 tellsTime (Ppp a b c) = false
+tellsTime (Adjust h) = true
 
 -- ---- the answer: 5 without a class, 4; what the recorder answers; then 15 for a Rate while a table is loaded, and 6 and 14 of a load
 

@@ -1,11 +1,11 @@
 -- The checks in their order, in the form that the code's returns look for, and what an answer of 0 says.
 -- Assumes nothing.
-use Prim.Native.Nat.{ℕ, _*_, _≤_}
+use Prim.Native.Nat.{ℕ, _+_, _*_, _%_, _<_, _≤_}
 use mathlib.Core.Bool.{Bool, true, false, not, cond, _&&_}
 use mathlib.Core.Path.{_≡_, refl, sym, _∙_}
 use mathlib.Core.List.{List}
 use native.Mathlib.Omega.{arith}
-use borrow.Author.Tests.{eq-eqb, ne-eqb, eqb-true, eqb-false, leb-true, ltb-true, not-false}
+use borrow.Author.Tests.{eq-eqb, ne-eqb, eqb-true, eqb-false, leb-true, ltb-true, ltb-false, leb-false, not-false}
 use lib.Dec.{leb, ltb, eqb}
 use lib.ListN.{length}
 use Rattle.laws.specs.Tests.{allTrue}
@@ -13,15 +13,19 @@ use Rattle.laws.proofs.Bools.{both, passed, failed}
 use Rattle.laws.proofs.Checks.{NoneFails, none-fails}
 use Rattle.quantity.specs.declared.RegisterUnits.{RegisterUnits}
 use Rattle.quantity.specs.Units.{units}
+use Rattle.registers.specs.declared.Shift.{Shift}
+use Rattle.registers.specs.declared.Shift.the-variants.{Ahead, Back}
 use Rattle.registers.specs.Energy.{Countable}
-use Rattle.calendar.specs.Clock.{halvesOfDay, timesInAll}
+use Rattle.registers.specs.Shift.{shifted}
+use Rattle.calendar.specs.Clock.{secondsOfHalf, halvesOfDay, timesInAll}
 use Rattle.store.specs.declared.Class.{Class}
 use Rattle.store.specs.declared.Class.the-variants.{A, B, C, D, Blank}
 use Rattle.store.specs.Class.{daysOf, mostDays, dayWords, rightLengths}
 use Rattle.store.specs.Store.{Fits, store}
-use Rattle.recorder.specs.Recorder.{Recorder, Event, Clock, On, Mem, mem, capOf}
+use Rattle.recorder.specs.Recorder.{Recorder, Event, Clock, On, Adjust, Mem, mem, with, capOf}
 use Rattle.recorder.specs.Range.{identityTests, registerTests, inRange}
-use Rattle.recorder.specs.Answer.{wrongPower, mostUnits, unitsAfter, eventAnswer, inTime, checks, answerWith, answerOf}
+use Rattle.recorder.specs.Effect.{accessed}
+use Rattle.recorder.specs.Answer.{wrongPower, tooEarly, mostUnits, unitsAfter, eventAnswer, inTime, checks, answerWith, answerOf}
 use Rattle.recorder.specs.Needs.{Good, Goes, Resets, Flaggable}
 use Rattle.recorder.proofs.Ranges.{Ranges, ranges, countable}
 
@@ -34,6 +38,9 @@ in-halves r d false b p e f = rw (sym e)
 
 pub range-counts : (r : Recorder) (b : Bool) → b ≡ inRange r → not b ≡ false → Countable (r .identity .weight) (r .energy)
 range-counts r b e t = countable r (ranges r (passed b (inRange r) e t))
+
+pub range-time : (r : Recorder) (b : Bool) → b ≡ inRange r → not b ≡ false → r .clock .time < timesInAll
+range-time r b e t = ranges r (passed b (inRange r) e t) .clock .time
 
 module _ (r : Recorder) (e : Event) (v s m : ℕ) (d : ℕ) (p : d ≡ capOf r) where
   pub no-class : d ≡ 0 → 5 ≡ answerWith r e v s m
@@ -100,6 +107,12 @@ module _ (r : Recorder) (e : Event) (v s m : List ℕ) (a : answerOf (mem r v s 
   pub accepted-power : wrongPower (r .clock .on) e ≡ false
   accepted-power = none .1 .1 .1 .0
 
+  pub accepted-begun : tooEarly (r .clock .time) e ≡ false
+  accepted-begun = none .1 .1 .1 .1 .1 .0
+
+  pub accepted-time : r .clock .time < timesInAll
+  accepted-time = accepted-ranges .clock .time
+
   pub accepted-counts : Countable (r .identity .weight) (r .energy)
   accepted-counts = countable r accepted-ranges
 
@@ -116,10 +129,28 @@ module _ (r : Recorder) (e : Event) (v s m : List ℕ) (a : answerOf (mem r v s 
   goes : (t : ℕ) → not (inTime (r .clock .time) t) ≡ false → Goes t (mem r v s m)
   goes t f =
       let b = both (leb (r .clock .time) t) (ltb t timesInAll) (not-false (inTime (r .clock .time) t) f) in
-      record { good = accepted-good; from = leb-true _ _ (b .0); to = ltb-true _ _ (b .1) }
+      let from : r .clock .time ≤ t = leb-true _ _ (b .0) in
+      record { good = accepted-good; from = omega arith; to = ltb-true _ _ (b .1) }
 
   pub accepted-clock : (t : ℕ) → e ≡ Clock t → Goes t (mem r v s m)
-  accepted-clock t p = goes t (rw p at (none .1 .1 .1 .1 .1 .0))
+  accepted-clock t p = goes t (rw p at (none .1 .1 .1 .1 .1 .1 .0))
 
   pub accepted-on : (t : ℕ) → e ≡ On t → Goes t (mem r v s m)
-  accepted-on t p = goes t (rw p at (none .1 .1 .1 .1 .1 .0))
+  accepted-on t p = goes t (rw p at (none .1 .1 .1 .1 .1 .1 .0))
+
+  pub accepted-back : (n : ℕ) → e ≡ Adjust (Back n) → n ≤ r .clock .time % secondsOfHalf
+  accepted-back n p = ltb-false _ _ (rw p at accepted-begun)
+
+  pub accepted-adjust : (h : Shift) → e ≡ Adjust h → Goes (shifted (r .clock .time) h) (mem r v s m)
+  accepted-adjust (Ahead n) p =
+      let late : r .clock .time + n < timesInAll = leb-false _ _ (rw p at (none .1 .1 .1 .1 .1 .1 .0)) in
+      record { good = accepted-good; from = omega arith; to = late }
+  accepted-adjust (Back n) p =
+      let back = accepted-back n p in
+      let time = accepted-time in
+      record { good = accepted-good; from = omega arith; to = omega arith }
+
+-- the running half-hour marked, time can go on as before
+pub marked-goes : (t : ℕ) (x : Mem) → Goes t x → Goes t (with x (accessed (x .recorder)))
+marked-goes t x g =
+    record { good = record { time = g .good .time; days = g .good .days; total = g .good .total; fits = g .good .fits }; from = g .from; to = g .to }

@@ -3,21 +3,23 @@
 use Prim.Native.Nat.{ℕ, _+_}
 use mathlib.Core.Bool.{Bool, true, false, cond}
 use mathlib.Core.List.{List, [], _∷_}
-use mathlib.Core.Path.{_≡_, sym, ap, _∙_}
+use mathlib.Core.Path.{_≡_, refl, sym, ap, _∙_, subst}
 use native.Mathlib.Omega.{arith}
 use borrow.Author.Tests.{ne-eqb, not-false}
 use lib.ListN.{length}
 use Rattle.format.specs.Identifier.{withPpp}
+use Rattle.registers.specs.declared.Shift.{Shift}
+use Rattle.registers.specs.Shift.{shifted, early}
 use Rattle.store.specs.Store.{flagged}
 use Rattle.recorder.specs.declared.step.Told.{Told}
 use Rattle.recorder.specs.declared.step.Told.the-variants.{Is, Not}
-use Rattle.recorder.specs.Recorder.{Identity, Recorder, Mem, Event, Count, Clock, Off, On, Access, Meter, Reset, Rate, Reverse, Ppp, mem, capOf, todayOf, withIdentity}
+use Rattle.recorder.specs.Recorder.{Identity, Recorder, Mem, Event, Count, Clock, Off, On, Access, Meter, Reset, Rate, Reverse, Ppp, Adjust, mem, capOf, todayOf, withIdentity}
 use Rattle.recorder.specs.Boundary.{advanceTo}
 use Rattle.recorder.specs.Effect.{powerLost, pppIs, accessed, firstFlagged, flagFrom, turnedOn, after}
-use Rattle.recorder.specs.Answer.{wrongPower, answerWith, answerOf}
+use Rattle.recorder.specs.Answer.{tooEarly, wrongPower, answerWith, answerOf}
 use Rattle.recorder.specs.Step.{Done, done, step}
-use Rattle.recorder.specs.Needs.{Good, Goes, Flaggable, timeIn, told}
-use Rattle.recorder.proofs.Answers.{accepted-power, accepted-clock, accepted-on}
+use Rattle.recorder.specs.Needs.{Good, Goes, Flaggable, timeIn, markedIf, told}
+use Rattle.recorder.proofs.Answers.{accepted-power, accepted-clock, accepted-on, accepted-adjust, marked-goes}
 use Rattle.recorder.proofs.Boundaries.{same-identity, gone-good}
 
 -- when time has gone on, the identity may as well be the one that was there
@@ -53,58 +55,76 @@ ppp-done r a b c named e = rw e
 
 -- an event that tells the time, and one that does not
 abbrev order : Told → ℕ
-order (Is t) = t + 1
+order (Is t b) = 1
 order Not = 0
 
-same-time : (u t : ℕ) → Is u ≡ Is t → u ≡ t
-same-time u t p = let q : u + 1 ≡ t + 1 = ap order p in omega arith
+no-time : {A : Type 0} (t : ℕ) (b : Bool) → Not ≡ Is t b → A
+no-time t b p = absurd (let q : 0 ≡ 1 = ap order p in omega arith)
 
-no-time : {A : Type 0} (t : ℕ) → Not ≡ Is t → A
-no-time t p = absurd (let q : 0 ≡ t + 1 = ap order p in omega arith)
+pub not-told : (now : ℕ) (e : Event) (w : Told) → w ≡ timeIn now e → w ≡ Not → timeIn now e ≡ Not
+not-told now e w p q = sym p ∙ q
 
-pub no-clock : (e : Event) (t : ℕ) → timeIn e ≡ Not → e ≡ Clock t → ⊥
-no-clock e t p q = no-time t (sym p ∙ ap timeIn q)
+pub no-clock : (now : ℕ) (e : Event) (t : ℕ) → timeIn now e ≡ Not → e ≡ Clock t → ⊥
+no-clock now e t p q = no-time t false (sym p ∙ ap (timeIn now) q)
 
-pub no-on : (e : Event) (t : ℕ) → timeIn e ≡ Not → e ≡ On t → ⊥
-no-on e t p q = no-time t (sym p ∙ ap timeIn q)
+pub no-on : (now : ℕ) (e : Event) (t : ℕ) → timeIn now e ≡ Not → e ≡ On t → ⊥
+no-on now e t p q = no-time t false (sym p ∙ ap (timeIn now) q)
 
-goes-to : (r : Recorder) (e : Event) (v s m : List ℕ) → answerOf (mem r v s m) e ≡ 0 → (t : ℕ) → timeIn e ≡ Is t → Goes t (mem r v s m)
-goes-to r (Count c) v s m a t p = no-time t p
-goes-to r (Clock u) v s m a t p = accepted-clock r (Clock u) v s m a t (ap Clock (same-time u t p))
-goes-to r Off v s m a t p = no-time t p
-goes-to r (On u) v s m a t p = accepted-on r (On u) v s m a t (ap On (same-time u t p))
-goes-to r Access v s m a t p = no-time t p
-goes-to r (Meter c) v s m a t p = no-time t p
-goes-to r Reset v s m a t p = no-time t p
-goes-to r (Rate n) v s m a t p = no-time t p
-goes-to r Reverse v s m a t p = no-time t p
-goes-to r (Ppp x y z) v s m a t p = no-time t p
+pub no-adjust : (now : ℕ) (e : Event) (h : Shift) → timeIn now e ≡ Not → e ≡ Adjust h → ⊥
+no-adjust now e h p q = no-time (shifted now h) true (sym p ∙ ap (timeIn now) q)
 
-pub told-goes : (r : Recorder) (e : Event) (v s m : List ℕ) (w : Told) (t : ℕ) → answerOf (mem r v s m) e ≡ 0 → w ≡ timeIn e → w ≡ Is t → Goes t (mem r v s m)
-told-goes r e v s m w t a p q = goes-to r e v s m a t (sym p ∙ q)
+pub adjust-begun : (now : ℕ) (e : Event) (h : Shift) → tooEarly now e ≡ false → e ≡ Adjust h → early now h ≡ false
+adjust-begun now e h p q = rw q at p
 
-told-after : (r : Recorder) (e : Event) (v s m : List ℕ) → answerOf (mem r v s m) e ≡ 0 → (t : ℕ) → timeIn e ≡ Is t → told t (mem r v s m) ≡ after (mem r v s m) e
-unfolding after wrongPower
-told-after r (Count c) v s m a t p = no-time t p
-told-after r (Clock u) v s m a t p =
-    let on : r .clock .on ≡ true = not-false (r .clock .on) (accepted-power r (Clock u) v s m a) in
-    let x = mem r v s m in
-    ap (λ (b : Bool). cond b (advanceTo t x) (turnedOn t x)) on ∙ ap (λ (k : ℕ). advanceTo k x) (sym (same-time u t p))
-told-after r Off v s m a t p = no-time t p
-told-after r (On u) v s m a t p =
-    let off : r .clock .on ≡ false = accepted-power r (On u) v s m a in
-    let x = mem r v s m in
-    ap (λ (b : Bool). cond b (advanceTo t x) (turnedOn t x)) off ∙ ap (λ (k : ℕ). turnedOn k x) (sym (same-time u t p))
-told-after r Access v s m a t p = no-time t p
-told-after r (Meter c) v s m a t p = no-time t p
-told-after r Reset v s m a t p = no-time t p
-told-after r (Rate n) v s m a t p = no-time t p
-told-after r Reverse v s m a t p = no-time t p
-told-after r (Ppp x y z) v s m a t p = no-time t p
+module _ (r : Recorder) (v s m : List ℕ) where
+  -- time can go on as it is told, the recorder marked first where that is said
+  abbrev GoesBy : Told → Type 0
+  GoesBy (Is t b) = Goes t (mem (markedIf b r) v s m)
+  GoesBy Not = Unit {0}
 
-pub told-done : (r y : Recorder) (e : Event) (v s m v₁ s₁ m₁ : List ℕ) (w : Told) (t : ℕ) → answerOf (mem r v s m) e ≡ 0 → w ≡ timeIn e → w ≡ Is t
-    → mem y v₁ s₁ m₁ ≡ told t (mem r v s m) → mem y v₁ s₁ m₁ ≡ after (mem r v s m) e
-told-done r y e v s m v₁ s₁ m₁ w t a p q d = d ∙ told-after r e v s m a t (sym p ∙ q)
+  goes-by : (e : Event) → answerOf (mem r v s m) e ≡ 0 → GoesBy (timeIn (r .clock .time) e)
+  goes-by (Count c) a = tt
+  goes-by (Clock t) a = accepted-clock r (Clock t) v s m a t refl
+  goes-by Off a = tt
+  goes-by (On t) a = accepted-on r (On t) v s m a t refl
+  goes-by Access a = tt
+  goes-by (Meter c) a = tt
+  goes-by Reset a = tt
+  goes-by (Rate n) a = tt
+  goes-by Reverse a = tt
+  goes-by (Ppp x y z) a = tt
+  goes-by (Adjust h) a = marked-goes (shifted (r .clock .time) h) (mem r v s m) (accepted-adjust r (Adjust h) v s m a h refl)
+
+  pub told-goes : (y : Recorder) (e : Event) (w : Told) (t : ℕ) (b : Bool) → answerOf (mem r v s m) e ≡ 0 → w ≡ timeIn (r .clock .time) e → w ≡ Is t b
+      → y ≡ markedIf b r → Goes t (mem y v s m)
+  told-goes y e w t b a p q d = rw d (subst (λ (u : Told). GoesBy u) (sym p ∙ q) (goes-by e a))
+
+  -- and what is done then is what the event does
+  abbrev DoneBy : Event → Told → Type 0
+  DoneBy e (Is t b) = told t (mem (markedIf b r) v s m) ≡ after (mem r v s m) e
+  DoneBy e Not = Unit {0}
+
+  by-power : (t : ℕ) (y : Recorder) (b : Bool) → y .clock .on ≡ b → told t (mem y v s m) ≡ cond b (advanceTo t (mem y v s m)) (turnedOn t (mem y v s m))
+  by-power t y b o = ap (λ (b : Bool). cond b (advanceTo t (mem y v s m)) (turnedOn t (mem y v s m))) o
+
+  done-by : (e : Event) → answerOf (mem r v s m) e ≡ 0 → DoneBy e (timeIn (r .clock .time) e)
+  unfolding after wrongPower
+  done-by (Count c) a = tt
+  done-by (Clock t) a = by-power t r true (not-false (r .clock .on) (accepted-power r (Clock t) v s m a))
+  done-by Off a = tt
+  done-by (On t) a = by-power t r false (accepted-power r (On t) v s m a)
+  done-by Access a = tt
+  done-by (Meter c) a = tt
+  done-by Reset a = tt
+  done-by (Rate n) a = tt
+  done-by Reverse a = tt
+  done-by (Ppp x y z) a = tt
+  done-by (Adjust h) a = by-power (shifted (r .clock .time) h) (accessed r) true (not-false (r .clock .on) (accepted-power r (Adjust h) v s m a))
+
+  pub told-done : (y z : Recorder) (e : Event) (v₁ s₁ m₁ : List ℕ) (w : Told) (t : ℕ) (b : Bool) → answerOf (mem r v s m) e ≡ 0 → w ≡ timeIn (r .clock .time) e → w ≡ Is t b
+      → y ≡ markedIf b r → mem z v₁ s₁ m₁ ≡ told t (mem y v s m) → mem z v₁ s₁ m₁ ≡ after (mem r v s m) e
+  told-done y z e v₁ s₁ m₁ w t b a p q d g =
+      g ∙ ap (λ (k : Recorder). told t (mem k v s m)) d ∙ subst (λ (u : Told). DoneBy e u) (sym p ∙ q) (done-by e a)
 
 -- a step, by the answer a: refused, accepted and done
 module _ (r : Recorder) (e : Event) (a : ℕ) (v s m : List ℕ) (p : a ≡ answerWith r e (length v) (length s) (length m)) where

@@ -28,18 +28,19 @@ use Rattle.registers.specs.declared.Running.{Running}
 use Rattle.registers.specs.Demand.{demandClosed}
 use Rattle.registers.specs.Energy.{leastWeight, mostWeight, rateCount, rateOk, noEnergy, energyCounted}
 use Rattle.registers.specs.Present.{presentAt}
+use Rattle.registers.specs.Shift.{shifted}
 use Rattle.store.specs.Class.{daysOf, dayWords, rightLengths}
 use Rattle.store.specs.Store.{Store, store, Fits, Words}
 use Rattle.store.proofs.Laws.{begun-fits, flag-words, flagged-words, gone-fits}
 use Rattle.recorder.specs.declared.SetUp.{SetUp}
-use Rattle.recorder.specs.Recorder.{Recorder, Mem, Event, Count, Clock, Off, On, Access, Meter, Reset, Rate, Reverse, Ppp, with, capOf, halfOf, todayOf, readingNow}
+use Rattle.recorder.specs.Recorder.{Recorder, Mem, Event, Count, Clock, Off, On, Access, Meter, Reset, Rate, Reverse, Ppp, Adjust, with, capOf, halfOf, todayOf, readingNow}
 use Rattle.recorder.specs.Boundary.{ended, advanceTo, storeAt}
 use Rattle.recorder.specs.Effect.{powerLost, meterChanged, demandCleared, counted, lastIs, rateIs, pppIs, switchedOff, wasReset, accessed, reversed, firstFlagged, flagToday, flagFrom, after}
 use Rattle.recorder.specs.Answer.{checks, eventAnswer, unitsAfter, answerWith, answerOf}
 use Rattle.recorder.specs.Step.{step, run}
 use Rattle.recorder.specs.SetUp.{setUpTests, setUpChecks, setUpAnswer, setUpWith, started, fresh, blank, made, setUp}
 use Rattle.recorder.specs.Needs.{Goes}
-use Rattle.recorder.proofs.Answers.{answered, given-answer, accepted-ranges, accepted-fits, accepted-clock, accepted-on}
+use Rattle.recorder.proofs.Answers.{answered, given-answer, accepted-ranges, accepted-fits, accepted-clock, accepted-on, accepted-adjust, marked-goes}
 use Rattle.recorder.proofs.Boundaries.{stayed, went}
 use Rattle.recorder.proofs.Ranges.{Ranges, PresentRanges, DemandRanges, in-range}
 use Rattle.recorder.proofs.Setting.{set-up-tests, set-up-begins}
@@ -89,7 +90,7 @@ kept-reset r g =
 
 -- ---- time goes on to t
 
-present-kept : (cap t : ℕ) (p : Present) → PresentRanges cap p → p .time ≤ t → t < timesInAll → PresentRanges cap (presentAt cap t p)
+present-kept : (cap t : ℕ) (p : Present) → PresentRanges cap p → p .time / secondsOfHalf ≤ t / secondsOfHalf → t < timesInAll → PresentRanges cap (presentAt cap t p)
 present-kept cap t p g from to = record { time = to; low = omega arith; high = omega arith; past = omega arith }
 
 demand-kept : (e : Energy) (h : Running) (d : Demand) → DemandRanges d → DemandRanges (demandClosed e h d)
@@ -159,6 +160,11 @@ accepted-sound x e a =
 changed : (x : Mem) (r : Recorder) → capOf r ≡ capOf (x .recorder) → Ranges r → Sound x → Sound (with x r)
 changed x r e g s = record { ranges = g; fits = rw e (s .fits) }
 
+marked-sound : (x : Mem) → Sound x → Sound (with x (accessed (x .recorder)))
+marked-sound x s =
+    let g = s .ranges in
+    changed x (accessed (x .recorder)) refl (record { identity = g .identity; clock = g .clock; energy = g .energy; demand = g .demand; base = g .base }) s
+
 pub after-sound : (x : Mem) (e : Event) → answerOf x e ≡ 0 → Sound (after x e)
 unfolding after
 after-sound x (Count c) a = let s = accepted-sound x (Count c) a in changed x (counted c (x .recorder)) refl (kept-count (x .recorder) c (s .ranges)) s
@@ -177,10 +183,7 @@ after-sound x Off a = let s = accepted-sound x Off a in record { ranges = same (
 after-sound x (On t) a =
     from-sound (todayOf (x .recorder)) powerLost (advanceTo t x)
     (gone-sound t x (accepted-sound x (On t) a) (accepted-on (x .recorder) (On t) (x .store .values) (x .store .starts) (x .store .marks) a t refl))
-after-sound x Access a = let s = accepted-sound x Access a in changed x (accessed (x .recorder)) refl (marked (s .ranges)) s
-  where
-    marked : Ranges (x .recorder) → Ranges (accessed (x .recorder))
-    marked g = record { identity = g .identity; clock = g .clock; energy = g .energy; demand = g .demand; base = g .base }
+after-sound x Access a = marked-sound x (accepted-sound x Access a)
 after-sound x (Meter c) a =
     let s = accepted-sound x (Meter c) a in
     today-sound meterChanged (with x (accessed (lastIs c (x .recorder)))) (changed x (accessed (lastIs c (x .recorder))) refl (metered (s .ranges)) s)
@@ -219,6 +222,10 @@ after-sound x (Ppp a b c) ok =
           demand = g .demand;
           base = g .base;
         }
+after-sound x (Adjust h) a =
+    let t = shifted (x .recorder .clock .time) h in
+    let goes = accepted-adjust (x .recorder) (Adjust h) (x .store .values) (x .store .starts) (x .store .marks) a h refl in
+    gone-sound t (with x (accessed (x .recorder))) (marked-sound x (accepted-sound x (Adjust h) a)) (marked-goes t x goes)
 
 pub step-sound : (x : Mem) (e : Event) → Sound x → Sound (step x e .after)
 unfolding step

@@ -5,3 +5,4 @@ pub mod Boundaries
 pub mod Effects
 pub mod Setting
 pub mod Kept
+pub mod Adjusting

@@ -1,4 +1,4 @@
--- The answer to an event (docs/RULES.md, "Answer numbers"): 4, 5, 1, 6, 2, 3 in this order, but 5 first for a recorder without a real class, which has no length to compare.
+-- The answer to an event (docs/RULES.md, "Answer numbers"): 4, 5, 1, 6, 13, 2, 3 in this order, but 5 first for a recorder without a real class, which has no length to compare.
 use Prim.Native.Nat.{ℕ}
 use mathlib.Core.Bool.{Bool, not}
 use mathlib.Core.List.{List, [], _∷_}
@@ -9,7 +9,7 @@ use Rattle.registers.specs.Energy.{unitsWith}
 use Rattle.store.specs.Class.{rightLengths}
 use Rattle.recorder.specs.Recorder.{Recorder, Mem, Event, capOf}
 use Rattle.recorder.specs.Range.{inRange}
-pub use Rattle.recorder.specs.Cause.{isOn, badValue, inTime, badTime, mostUnits, tooMuch}
+pub use Rattle.recorder.specs.Cause.{isOn, badValue, tooEarly, inTime, badTime, mostUnits, tooMuch}
 unfoldable pub use Rattle.recorder.specs.Cause.{wrongPower}
 
 abbrev pub noClass : Recorder → Bool
@@ -17,7 +17,8 @@ noClass r = eqb (capOf r) 0
 
 -- of a good recorder, by its power, its time and the units that a Count would give
 abbrev pub eventChecks : Bool → ℕ → (ℕ → ℕ) → Event → List Check
-eventChecks on now units e = check (wrongPower on e) 1 ∷ check (badValue e) 6 ∷ check (badTime now e) 2 ∷ check (tooMuch units e) 3 ∷ []
+eventChecks on now units e =
+    check (wrongPower on e) 1 ∷ check (badValue e) 6 ∷ check (tooEarly now e) 13 ∷ check (badTime now e) 2 ∷ check (tooMuch units e) 3 ∷ []
 
 unfoldable pub eventAnswer : Bool → ℕ → (ℕ → ℕ) → Event → ℕ
 eventAnswer on now units e = firstFailing (eventChecks on now units e)

@@ -32,7 +32,7 @@ closeOne x =
 abbrev pub closeAt : ℕ → Mem → Mem
 closeAt k x = closeOne x
 
--- those from the running half-hour up to that of t, and then it is t, with power on
+-- those from the running half-hour up to that of t, none where t lies in the running one, and then it is t, with power on
 unfoldable pub advanceTo : ℕ → Mem → Mem
 advanceTo t x =
     let y = forTo closeAt (halfOf (x .recorder)) (t / secondsOfHalf) x in

@@ -5,8 +5,10 @@ use mathlib.Core.List.{[], _∷_}
 use Rattle.format.specs.Identifier.{withPpp}
 use Rattle.registers.specs.Demand.{demandReset}
 use Rattle.registers.specs.Energy.{energyCounted, energyLast, energyRate}
+use Rattle.registers.specs.declared.Shift.{Shift}
+use Rattle.registers.specs.Shift.{shifted}
 use Rattle.store.specs.Store.{store, flagAt, flagged}
-use Rattle.recorder.specs.Recorder.{Recorder, Mem, Event, Count, Clock, Off, On, Access, Meter, Reset, Rate, Reverse, Ppp, with, capOf, todayOf, withIdentity, withClock, withEnergy, withDemand, withRunning}
+use Rattle.recorder.specs.Recorder.{Recorder, Mem, Event, Count, Clock, Off, On, Access, Meter, Reset, Rate, Reverse, Ppp, Adjust, with, capOf, todayOf, withIdentity, withClock, withEnergy, withDemand, withRunning}
 use Rattle.recorder.specs.Boundary.{advanceTo}
 
 -- daily flags
@@ -74,6 +76,10 @@ metered c x = flagToday meterChanged (with x (accessed (lastIs c (x .recorder)))
 abbrev pub cleared : Mem → Mem
 cleared x = flagToday demandCleared (with x (accessed (wasReset (x .recorder))))
 
+-- Adjust(n): the mark first, so that it is the half-hour's that runs before the move
+abbrev pub adjusted : Shift → Mem → Mem
+adjusted h x = advanceTo (shifted (x .recorder .clock .time) h) (with x (accessed (x .recorder)))
+
 unfoldable pub after : Mem → Event → Mem
 after x (Count c) = with x (counted c (x .recorder))
 after x (Clock t) = advanceTo t x
@@ -85,3 +91,4 @@ after x Reset = cleared x
 after x (Rate n) = with x (rateIs n (x .recorder))
 after x Reverse = with x (reversed (x .recorder))
 after x (Ppp a b c) = with x (accessed (pppIs a b c (x .recorder)))
+after x (Adjust h) = adjusted h x

@@ -9,3 +9,4 @@ pub mod Step
 pub mod SetUp
 pub mod Stored
 pub mod Needs
+pub mod Adjusted

@@ -13,7 +13,7 @@ use Rattle.store.specs.Store.{Store, store}
 pub use Rattle.recorder.specs.declared.Identity.{Identity}
 pub use Rattle.recorder.specs.declared.Recorder.{Recorder}
 pub use Rattle.recorder.specs.declared.Event.{Event}
-pub use Rattle.recorder.specs.declared.Event.the-variants.{Count, Clock, Off, On, Access, Meter, Reset, Rate, Reverse, Ppp}
+pub use Rattle.recorder.specs.declared.Event.the-variants.{Count, Clock, Off, On, Access, Meter, Reset, Rate, Reverse, Ppp, Adjust}
 
 pub record Mem : Type 0 where
   pub recorder : Recorder

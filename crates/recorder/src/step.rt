@@ -1,25 +1,21 @@
-// A step: the answer to an event, what an accepted one does to recorder and store, and the entry that does it.
+// A step: what an accepted event does to recorder and store, and the entry that does it.
 ghost use mathlib.Core.Path.{_≡_};
-ghost use mathlib.Core.Bool.{not, cond};
-ghost use Prim.Native.Nat.{max, _+_, _-_};
-ghost use lib.Dec.{ltb};
-ghost use Rattle.format.specs.Identifier.{pppOk};
-ghost use Rattle.registers.specs.Energy.{Countable, rateOk};
+ghost use mathlib.Core.Bool.{false};
+ghost use Prim.Native.Nat.{max, _+_, _-_, _<_};
+ghost use Rattle.calendar.specs.Clock.{timesInAll};
+ghost use Rattle.registers.specs.Energy.{Countable};
 ghost use Rattle.store.specs.Store.{store, flagAt, flagged};
 ghost use Rattle.recorder.specs.Recorder.{mem, capOf, todayOf, withClock};
 ghost use Rattle.recorder.specs.Boundary.{ended, storeAt, advanceTo};
 ghost use Rattle.recorder.specs.Effect.{counted, lastIs, rateIs, pppIs, wasReset, switchedOff, accessed, reversed, firstFlagged, after};
 ghost use Rattle.recorder.specs.declared.step.Told.the-variants.{Not};
-ghost use Rattle.recorder.specs.Answer.{inTime, mostUnits, unitsAfter, eventAnswer, answerWith, answerOf};
+ghost use Rattle.recorder.specs.Answer.{tooEarly, answerOf};
 ghost use Rattle.recorder.specs.Step.{done, step};
-ghost use Rattle.recorder.specs.Needs.{Good, Goes, Resets, Flaggable, timeIn, told};
+ghost use Rattle.recorder.specs.Needs.{Good, Goes, Resets, Flaggable, timeIn, markedIf, told};
 use crate::Event;
 use crate::Recorder;
 use crate::Stepped;
-use crate::registers_ok;
 use registers::Present;
-
-const MOST_UNITS: u64 = quantity::VALUE_ROUND - 1;
 
 const POWER_LOST: u64 = 0x80;
 
@@ -39,140 +35,34 @@ fn less(a: u32, b: u32) -> u32
     if a < b { 0 } else { a - b }
 }
 
-// The number where the test fails, else what comes next.
-fn first_of(fails: bool, number: u32, next: u32) -> u32
-    ensures { λ r. ⌜ r ≡ cond fails number next ⌝ }
-{
-    if fails { number } else { next }
-}
-
-// The answers that power, a time, a rate and a PPP give.
-fn power_answer(wrong: bool) -> u32
-    ensures { λ r. ⌜ r ≡ cond wrong 1 0 ⌝ }
-{
-    first_of(wrong, answers::POWER, answers::DONE)
-}
-
-fn time_answer(wrong: bool, now: u64, t: u64) -> u32
-    ensures { λ r. ⌜ r ≡ cond wrong 1 (cond (not (inTime now t)) 2 0) ⌝ }
-{
-    first_of(
-        wrong,
-        answers::POWER,
-        first_of(
-            !((now <= t) & (t < calendar::TIMES_IN_ALL)),
-            answers::TIME,
-            answers::DONE,
-        ),
-    )
-}
-
-fn rate_answer(wrong: bool, n: u32) -> u32
-    ensures { λ r. ⌜ r ≡ cond wrong 1 (cond (not (rateOk n)) 6 0) ⌝ }
-{
-    first_of(
-        wrong,
-        answers::POWER,
-        first_of(!registers::rate_ok(n), answers::RANGE, answers::DONE),
-    )
-}
-
-fn ppp_answer(wrong: bool, a: u8, b: u8, c: u8) -> u32
-    ensures { λ r. ⌜ r ≡ cond wrong 1 (cond (not (pppOk a b c)) 6 0) ⌝ }
-{
-    first_of(
-        wrong,
-        answers::POWER,
-        first_of(!format::ppp_ok(a, b, c), answers::RANGE, answers::DONE),
-    )
-}
-
-// The time that it is, if an event tells it.
+// The time that it is, if an event tells it, and whether the half-hour that runs before is marked.
 pub enum Told {
-    Is(u64),
+    Is(u64, bool),
     Not,
 }
 
 impl Event {
-    fn time(self) -> Told
-        ensures { λ r. ⌜ r ≡ timeIn self ⌝ }
+    fn time(self, now: u64) -> Told
+        requires { ⌜ (now < timesInAll) × (tooEarly now self ≡ false) ⌝ }
+        ensures { λ r. ⌜ r ≡ timeIn now self ⌝ }
     {
         match self {
             Event::Count(_) => Told::Not,
-            Event::Clock(t) => Told::Is(t),
+            Event::Clock(t) => Told::Is(t, false),
             Event::Off => Told::Not,
-            Event::On(t) => Told::Is(t),
+            Event::On(t) => Told::Is(t, false),
             Event::Access => Told::Not,
             Event::Meter(_) => Told::Not,
             Event::Reset => Told::Not,
             Event::Rate(_) => Told::Not,
             Event::Reverse => Told::Not,
             Event::Ppp(_, _, _) => Told::Not,
+            Event::Adjust(h) => Told::Is(h.time(now), true),
         }
     }
 }
 
 impl Recorder {
-    // ---- answers
-
-    // A Count's answer.
-    fn count_answer(self, c: u32) -> u32
-        requires { ⌜ Countable (self .identity .weight) (self .energy) ⌝ }
-        ensures { λ r. ⌜ r ≡ cond (not (self .clock .on)) 1 (cond (ltb mostUnits (unitsAfter self c)) 3 0) ⌝ }
-    {
-        let identity = self.identity;
-        let running = self.running;
-        let energy = self.energy;
-        let units = energy.units_with(identity.weight, running.base, c);
-        first_of(
-            !self.clock.on,
-            answers::POWER,
-            first_of(MOST_UNITS < units.0, answers::UNITS, answers::DONE),
-        )
-    }
-
-    // The answer to an event, of a recorder in range with a store of its lengths.
-    fn event_answer(self, event: Event) -> u32
-        requires { ⌜ Countable (self .identity .weight) (self .energy) ⌝ }
-        ensures { λ r. ⌜ r ≡ eventAnswer (self .clock .on) (self .clock .time) (unitsAfter self) event ⌝ }
-    {
-        let on = self.clock.on;
-        let now = self.clock.time;
-        match event {
-            Event::Count(c) => self.count_answer(c),
-            Event::Clock(t) => time_answer(!on, now, t),
-            Event::Off => power_answer(!on),
-            Event::On(t) => time_answer(on, now, t),
-            Event::Access => power_answer(!on),
-            Event::Meter(_) => power_answer(!on),
-            Event::Reset => power_answer(!on),
-            Event::Rate(n) => rate_answer(!on, n),
-            Event::Reverse => power_answer(!on),
-            Event::Ppp(a, b, c) => ppp_answer(!on, a, b, c),
-        }
-    }
-
-    // The answer to an event, with a store of these lengths.
-    fn answer(self, event: Event, values: usize, starts: usize, marks: usize) -> u32
-        ensures { λ r. ⌜ r ≡ answerWith self event values starts marks ⌝ }
-    {
-        let identity = self.identity;
-        let class = identity.class;
-        let cap = class.days();
-        if cap == 0 {
-            return answers::DAMAGED;
-        }
-        if !class.fits(values, starts, marks) {
-            return answers::LENGTH;
-        }
-        let good = identity.in_range()
-            & registers_ok(cap, self.clock, self.energy, self.demand, self.running);
-        if !good {
-            return answers::DAMAGED;
-        }
-        self.event_answer(event)
-    }
-
     // ---- effects on the recorder alone
 
     fn counted(mut self, c: u32) -> Recorder
@@ -213,6 +103,12 @@ impl Recorder {
     {
         self.running.level2 = true;
         self
+    }
+
+    fn marked(self, mark: bool) -> Recorder
+        ensures { λ r. ⌜ r ≡ markedIf mark self ⌝ }
+    {
+        if mark { self.accessed() } else { self }
     }
 
     fn reversed(mut self) -> Recorder
@@ -289,7 +185,7 @@ impl Recorder {
         );
     }
 
-    // Time goes on to t: each boundary passed closes a half-hour.
+    // Time becomes t: each boundary passed closes a half-hour.
     fn advance_to(
         self,
         t: u64,
@@ -331,7 +227,7 @@ impl Recorder {
         store::flag_days(self.cap(), first, end, flag, marks);
     }
 
-    // Clock(t) and On(t). The one is accepted while power is on, the other while it is off, and its days get a flag. The identity, which no time changes, goes
+    // Clock(t), Adjust and On(t). The first two are accepted while power is on, the last while it is off, and its days get a flag. The identity, which no time changes, goes
     // round the call and not through it: so a loop knows where it stays, and need not judge it each time.
     fn told(self, t: u64, values: &mut [u16], starts: &mut [u32], marks: &mut [u64]) -> Recorder
         requires { ⌜ Goes t (mem self (now values) (now starts) (now marks)) ⌝ }
@@ -357,7 +253,7 @@ impl Recorder {
         starts: &mut [u32],
         marks: &mut [u64],
     ) -> Recorder
-        requires { ⌜ (answerOf (mem self (now values) (now starts) (now marks)) event ≡ 0) × (timeIn event ≡ Not) ⌝ }
+        requires { ⌜ (answerOf (mem self (now values) (now starts) (now marks)) event ≡ 0) × (timeIn (self .clock .time) event ≡ Not) ⌝ }
         ensures { λ r. ⌜ mem r (now (values .exit)) (now (starts .exit)) (now (marks .exit))
             ≡ after (mem self (now (values .entry)) (now (starts .entry)) (now (marks .entry))) event ⌝ }
     {
@@ -378,6 +274,7 @@ impl Recorder {
             Event::Rate(n) => self.rate_is(n),
             Event::Reverse => self.reversed(),
             Event::Ppp(a, b, c) => self.ppp_is(a, b, c),
+            Event::Adjust(_) => self,
         }
     }
 
@@ -393,10 +290,10 @@ impl Recorder {
         ensures { λ r. ⌜ mem r (now (values .exit)) (now (starts .exit)) (now (marks .exit))
             ≡ after (mem self (now (values .entry)) (now (starts .entry)) (now (marks .entry))) event ⌝ }
     {
-        let Told::Is(t) = event.time() else {
+        let Told::Is(t, mark) = event.time(self.clock.time) else {
             return self.changed(event, values, starts, marks);
         };
-        self.told(t, values, starts, marks)
+        self.marked(mark).told(t, values, starts, marks)
     }
 
     // ---- the entry

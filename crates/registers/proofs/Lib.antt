@@ -1,2 +1,3 @@
 -- Laws of the registers.
 pub mod Laws
+pub mod Shifts

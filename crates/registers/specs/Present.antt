@@ -27,5 +27,5 @@ presentAt cap t p = record { time = t; on = true; days = min cap (p .days + (t /
 pub record Later (cap t : ℕ) (p : Present) : Type 0 where
   pub days : p .days ≤ cap
   pub most : cap ≤ daysInAll
-  pub from : p .time ≤ t
+  pub from : p .time / secondsOfDay ≤ t / secondsOfDay
   pub to : t < timesInAll

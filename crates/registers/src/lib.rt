@@ -1,4 +1,4 @@
-// The recorder's fields in their groups, each by value: the present, the running half-hour, energy and demand.
+// The recorder's fields in their groups, each by value: the present, the running half-hour, energy and demand; and by how much the present is adjusted.
 ghost use mathlib.Core.Path.{_≡_};
 ghost use Prim.Native.Nat.{min, _/_, _<_, _≤_};
 ghost use Rattle.quantity.specs.Units.{units, readingOf};
@@ -8,6 +8,9 @@ ghost use Rattle.registers.specs.Present.{Later, presentOk, presentAt};
 ghost use Rattle.calendar.specs.Calendar.{daysInAll};
 ghost use Rattle.calendar.specs.Clock.{secondsOfDay, secondsOfHalf, timesInAll};
 ghost use Rattle.registers.specs.Present.{halvesInAll};
+
+mod adjust;
+
 use quantity::CentiKilowatts;
 use quantity::MilliwattHours;
 use quantity::RegisterUnits;
@@ -39,6 +42,12 @@ pub struct Demand {
     pub cumulative: CentiKilowatts,
     pub reset: u32,
     pub count: u32,
+}
+
+// By how many seconds the clock is adjusted.
+pub enum Shift {
+    Ahead(u32),
+    Back(u32),
 }
 
 const LEAST_WEIGHT: u64 = 1;

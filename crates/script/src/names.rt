@@ -22,6 +22,8 @@ pub const REVERSE: u64 = 0x72657665727365;
 
 pub const PPP: u64 = 0x707070;
 
+pub const ADJUST: u64 = 0x61646a757374;
+
 pub const READ: u64 = 0x72656164;
 
 pub const DAY: u64 = 0x646179;

@@ -12,10 +12,10 @@ use crate::tariff::{self, Slot, DEFAULT, EVERY_YEAR, EXCEPTION, SLOT_BYTES, TABL
 use std::collections::BTreeSet;
 
 /// The calls that ask a table for its rate.
-const FOLLOWING: [&str; 4] = ["load", "clock", "on", "rateat"];
+const FOLLOWING: [&str; 5] = ["load", "clock", "on", "adjust", "rateat"];
 /// The calls that a room of another length refuses; a read does not look at it.
-const LENT: [&str; 12] =
-    ["setup", "count", "clock", "off", "on", "access", "meter", "reset", "rate", "reverse", "ppp", "load"];
+const LENT: [&str; 13] =
+    ["setup", "count", "clock", "off", "on", "access", "meter", "reset", "rate", "reverse", "ppp", "adjust", "load"];
 
 const RATE_CHOSEN: &str = "rate chosen while a table is loaded";
 const RATE_KEPT: &str = "the active rate chosen while a table is loaded";
@@ -23,7 +23,13 @@ const READ: &str = "bytes of a table's room lent to a read";
 const WEEK: &str = "first day of a week drawn, of a table that is";
 const CHANGED: &str = "half-hour drawn with a change";
 const UNCHANGED: &str = "half-hour drawn without one";
-const DAMAGED_ROOM: &str = "rate of a damaged room that a clock meets";
+
+/// The calls that are to meet each rate that a damaged room may name.
+const IN_DAMAGED_ROOM: [&str; 2] = ["clock", "adjust"];
+
+fn damaged_room(call: &str) -> String {
+    format!("rate of a damaged room, by {call}")
+}
 
 fn ruled(call: &str, kind: u8) -> String {
     format!("weekday ruled by an entry of kind {kind}, by {call}")
@@ -56,10 +62,11 @@ fn all() -> BTreeSet<Side> {
     for rate in 1..=rates {
         sides.insert((RATE_CHOSEN.to_string(), rate, TABLE_LOADED));
         sides.insert((RATE_KEPT.to_string(), rate, TABLE_LOADED));
-        sides.insert((DAMAGED_ROOM.to_string(), rate, DONE));
     }
     sides.extend([0, rates + 1].map(|rate| (RATE_CHOSEN.to_string(), rate, OUT_OF_RANGE)));
-    sides.extend([0, rates + 1, u64::from(u8::MAX)].map(|rate| (DAMAGED_ROOM.to_string(), rate, DONE)));
+    for call in IN_DAMAGED_ROOM {
+        sides.extend((0..=rates + 1).chain([u8::MAX.into()]).map(|rate| (damaged_room(call), rate, DONE)));
+    }
     let last = LAST_DAY + 1 - WEEKDAYS;
     for judged in [DONE, OUT_OF_RANGE, TABLE_CLASH] {
         sides.extend([(week_of(judged), last, judged), (week_of(judged), last + 1, OUT_OF_RANGE)]);
@@ -126,8 +133,8 @@ impl Switching {
             let day = calendar::day_of(time);
             let kind = ruling_kind(room, day).unwrap_or(UNUSED);
             self.sides.meet(ruled(call, kind), calendar::weekday(day), DONE);
-        } else if call == "clock" {
-            self.sides.meet(DAMAGED_ROOM, tariff::rate_at(room, time).into(), DONE);
+        } else {
+            self.sides.meet(damaged_room(call), tariff::rate_at(room, time).into(), DONE);
         }
     }
 

@@ -248,7 +248,7 @@ pub fn rings(seed: u64) -> Script {
         for _ in 0..3 {
             let pulses = life.random.below(3_000);
             life.pulses(pulses);
-            let mark = *life.random.pick(&["access", "reverse", "reset", "ppp Qr0", "#", "#"]);
+            let mark = *life.random.pick(&["access", "reverse", "reset", "ppp Qr0", "adjust -30", "#", "#"]);
             life.say(mark);
             let time = life.time() + life.random.below(20_000);
             life.clock(time);

@@ -1,4 +1,4 @@
-//! Hostile calls: wrong power, bad times, rates, PPPs and asks, lengths lent wrong, outputs too short, and calls of all
+//! Hostile calls: wrong power, bad times, adjustments, rates, PPPs and asks, lengths lent wrong, outputs too short, and calls of all
 //! kinds by chance.
 
 use super::hostile::{asked_too_many, every_call, rate_too_many, wrong_lengths};
@@ -6,7 +6,7 @@ use super::{plain_events, Life, Script, MOST_32_BITS};
 use crate::block::{bytes_for, AT_TIME, DAY_BYTES, FRAME_BYTES, HEADER_BYTES, LENGTH_BYTES, MOST_BYTES, RATES};
 use crate::calendar::{LAST_TIME, SECONDS_PER_DAY};
 use crate::quantities::READING_MODULUS;
-use crate::recorder::{Class, MOST_ASKED};
+use crate::recorder::{Class, MOST_ASKED, MOST_SHIFT};
 use crate::script::MOST_NUMBER;
 
 /// Calls with wrong power, wrong times, wrong lengths and short outputs.
@@ -63,6 +63,9 @@ fn power(life: &mut Life) {
     }
     life.say_all(&[&rate_too_many(), "rate 0", "ppp a-c", &asked_too_many(), "read 1", "read 0 0", "clock @0"]);
     life.say_all(&[&format!("clock @{MOST_NUMBER}"), "count 4000000000", "show"]);
+    for seconds in [-MOST_SHIFT - 1, -MOST_SHIFT, -1, MOST_SHIFT, MOST_SHIFT + 1] {
+        life.adjust(seconds);
+    }
     life.say(format!("on @{}", now - 1));
     life.say(format!("on @{}", LAST_TIME + 1));
     life.say("show");
@@ -141,7 +144,7 @@ fn outputs(life: &mut Life) {
 
 fn random_call(life: &mut Life) {
     let now = life.time();
-    let call = match life.random.below(20) {
+    let call = match life.random.below(22) {
         0 => "off".to_string(),
         1 | 2 => format!("on @{}", (now + life.random.below(9_000)).saturating_sub(life.random.below(4_000))),
         3 | 4 => format!("clock @{}", (now + life.random.below(9_000)).saturating_sub(life.random.below(4_000))),
@@ -159,6 +162,7 @@ fn random_call(life: &mut Life) {
         16 => format!("ppp {}", life.random.pick(&["-bc", "a-c", "ab-", "@A[", "`a{", "/0:"])),
         17 => "load".to_string(),
         18 => format!("poke loaded {}", life.random.below(2)),
+        19 | 20 => format!("adjust {}", life.random_shift()),
         _ => "show".to_string(),
     };
     life.say(call);

@@ -7,7 +7,7 @@ use crate::quantities::{
     self, DEMAND_MODULUS, LEAST_WEIGHT, MOST_UNITS, MOST_WEIGHT, READING_MODULUS, RESETS_MODULUS, THOUSANDTHS_PER_UNIT,
     TOTAL_MODULUS, VALUE_MODULUS,
 };
-use crate::recorder::{Class, StoreLength, FLAGS_WORD, MOST_ASKED, WORDS_PER_DAY};
+use crate::recorder::{Class, StoreLength, FLAGS_WORD, MOST_ASKED, MOST_SHIFT, WORDS_PER_DAY};
 use crate::script::{LONGEST_STORE, MOST_NUMBER};
 
 /// Every call of the recorder, each tried with its own plain values.
@@ -17,6 +17,8 @@ pub fn every_call(life: &mut Life) {
         life.say(event);
     }
     life.say_all(&["read 1", "read 0", &rate_too_many(), "rate 0", "ppp a-c", &asked_too_many(), "read 1 0"]);
+    life.adjust(MOST_SHIFT + 1);
+    life.adjust(-MOST_SHIFT);
 }
 
 pub fn rate_too_many() -> String {
@@ -180,6 +182,9 @@ fn poke_and_try(life: &mut Life, poke: &str) {
     for time in times {
         life.say(format!("clock @{time}"));
     }
+    for _ in 0..3 {
+        life.random_adjust();
+    }
     life.pulses(3);
     life.say_all(&[
         "show", "reset", "meter 9", "access", "reverse", "rate 4", "ppp b7Y", "show", "off", "off", "read 1",
@@ -230,7 +235,7 @@ pub fn stores(seed: u64) -> Script {
         life.say_all(&["check", "listing"]);
         let day = life.today() - back;
         life.day(day);
-        life.say_all(&["access", "reset", "meter 4", "reverse", "ppp c8X"]);
+        life.say_all(&["access", "reset", "meter 4", "reverse", "ppp c8X", "adjust -5"]);
         life.pulses(2);
         if life.random.once_in(2) {
             let time = life.time() + life.random.below(5_000);

@@ -34,6 +34,8 @@ fn well_formed() -> Vec<String> {
          reverse\n\
          ppp Z9z\n\
          ppp a-c\n\
+         adjust 7\n\
+         adjust -{MOST_32_BITS}\n\
          read 2\n\
          read 2 {two_days}\n\
          read 0 {MOST_BYTES}\n\

@@ -1,4 +1,4 @@
-//! Ordinary lives: weeks of counts, clocks, outages, accesses, resets, PPPs and reads,
+//! Ordinary lives: weeks of counts, clocks, adjustments, outages, accesses, resets, PPPs and reads,
 //! and the ledgers that take their blocks lost, repeated and shuffled.
 
 use super::{letter, with_ppp, write_into, Life, Script, IDENTIFIER, UNIT_A_PULSE};
@@ -43,7 +43,7 @@ pub fn year(seed: u64) -> Script {
         for _ in 0..life.random.between(1, 4) {
             let pulses = life.random.below(life.pulses_left() + 1);
             life.pulses(pulses);
-            let event = *life.random.pick(&["access", "reverse", "reset", "rate 4", "rate 5", "ppp y2K", "show"]);
+            let event = *life.random.pick(&["adjust -9", "reverse", "reset", "rate 4", "rate 5", "ppp y2K", "show"]);
             life.say(event);
             let time = life.time() + life.random.below(20_000);
             life.clock(time);
@@ -128,10 +128,11 @@ fn step(life: &mut Life, reads: &mut usize, reading: u64) {
     }
     match life.random.below(100) {
         0..=44 => count(life),
-        45..=79 => {
+        45..=75 => {
             let time = later(life);
             life.clock(time);
         }
+        76..=79 => life.random_adjust(),
         80..=83 => outage(life),
         84..=86 => {
             life.say("access");

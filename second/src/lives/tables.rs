@@ -1,6 +1,7 @@
 //! Tables for the lives: entries in any order and in any slots, accepted ones made by chance, and the lines by which an
 //! editor writes them.
 
+pub mod adjusted;
 pub mod damaged;
 pub mod drawn;
 pub mod limits;

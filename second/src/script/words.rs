@@ -47,6 +47,14 @@ pub fn number_32_bits(word: Word) -> Option<u64> {
     number_u32(word).map(u64::from)
 }
 
+/// A number of 32 bits, negative with a `-` before its digits.
+fn signed(word: Word) -> Option<i64> {
+    match word.strip_prefix(b"-") {
+        Some(digits) => number_u32(digits).map(|number| -i64::from(number)),
+        None => number_u32(word).map(i64::from),
+    }
+}
+
 pub fn yes_or_no(word: Word) -> Option<bool> {
     match number(word)? {
         0 => Some(false),
@@ -105,6 +113,7 @@ pub fn event(words: &[Word]) -> Option<Event<'static>> {
         [b"rate", n] => Event::Rate(number_u32(n)?),
         [b"reverse"] => Event::Reverse,
         [b"ppp", characters] => Event::Ppp(ppp(characters)?),
+        [b"adjust", n] => Event::Adjust(signed(n)?),
         _ => return None,
     })
 }

@@ -1,5 +1,5 @@
-//! Random lives, read now and then, and ledgers opened with any PPP that take their blocks lost, repeated and in any
-//! order: each holds what the history has of the days that were delivered.
+//! Random lives, read now and then, before and after moves back of their clocks, and ledgers opened with any PPP that take
+//! their blocks lost, repeated and in any order: each holds what the history has of the days that were delivered.
 
 use super::history::{any_event, any_ppp, History, Watched};
 use super::*;

@@ -1,8 +1,10 @@
 //! Every complete day of the class is there, whatever happens, the identifier is set-up's with the last PPP accepted, and
-//! each rate register has what was counted while its rate was active: random lives beside a history that forgets nothing.
+//! each rate register has what was counted while its rate was active: random lives, in which clocks are adjusted, beside
+//! a history that forgets nothing.
 
 use super::tariff::rate_by_looking;
 use super::*;
+use crate::answer::HALF_HOUR_ENDED;
 use crate::block::{DEMAND_RESET, METER_CHANGED, POWER_LOST, RATES};
 use crate::calendar::{day_of, ended, HALF_HOURS, SECONDS_PER_DAY, SECONDS_PER_HALF_HOUR};
 use crate::lives;
@@ -88,6 +90,7 @@ impl History {
                 self.today().flags |= DEMAND_RESET;
             }
             Event::Rate(rate) => self.rate = u64::from(rate),
+            Event::Adjust(seconds) => self.adjust(seconds),
             Event::Load(table) => {
                 self.table = Some(table.to_vec());
                 self.switch();
@@ -99,6 +102,11 @@ impl History {
                 self.level2 = true;
             }
         }
+    }
+
+    fn adjust(&mut self, seconds: i64) {
+        self.level2 = true;
+        self.pass(walked(self.time, seconds).unwrap());
     }
 
     /// Every half-hour that ends goes to its place in its day; behind a day's last one the next day begins.
@@ -164,12 +172,19 @@ impl Watched {
         (oldest..today).rev().collect()
     }
 
-    /// An event, and then all that must be there.
+    /// An event, and then all that must be there. Time may fall, half-hours never do.
     pub fn event(&mut self, event: Event) {
-        if self.outstation.event(event) == 0 {
+        let Recorder { time: began, power, .. } = self.outstation.recorder;
+        let answer = self.outstation.event(event);
+        if let Event::Adjust(seconds) = event {
+            let due = if power { walked(began, seconds).err().unwrap_or(0) } else { WRONG_POWER };
+            assert_eq!(answer, due, "{seconds} seconds from {began}");
+        }
+        if answer == 0 {
             self.history.accept(event);
         }
         let Recorder { identifier, time, rate, registers, .. } = self.outstation.recorder;
+        assert!(time / SECONDS_PER_HALF_HOUR >= began / SECONDS_PER_HALF_HOUR);
         assert_eq!((identifier, time), (self.history.identifier, self.history.time));
         assert_eq!((rate, registers), (self.history.rate, self.history.registers));
         assert_eq!(identifier[3..], IDENTIFIER[3..]);
@@ -212,6 +227,35 @@ impl Watched {
     }
 }
 
+/// Where an adjustment leads, second by second: a step back from a boundary would leave the half-hour.
+pub fn walked(time: u64, seconds: i64) -> Result<u64, u32> {
+    if !(-900..=900).contains(&seconds) {
+        return Err(OUT_OF_RANGE);
+    }
+    let mut now = time;
+    for _ in 0..seconds.abs() {
+        if seconds > 0 {
+            now += 1;
+        } else if now % SECONDS_PER_HALF_HOUR == 0 {
+            return Err(HALF_HOUR_ENDED);
+        } else {
+            now -= 1;
+        }
+    }
+    if now > calendar::LAST_TIME {
+        return Err(WRONG_TIME);
+    }
+    Ok(now)
+}
+
+/// Seconds of an adjustment: any, few or none, and about the ends of the running half-hour and of the range.
+fn any_shift(time: u64, random: &mut Random) -> i64 {
+    let passed = (time % SECONDS_PER_HALF_HOUR) as i64;
+    let any = random.below(1_811) as i64 - 905;
+    let beside = random.below(3) as i64 - 1;
+    *random.pick(&[any, any, any, any / 90, beside - passed, 1_800 - passed + beside, 900 + beside, beside - 900])
+}
+
 /// A time later by anything from nothing to a little more than the class's days; now and then an earlier one.
 fn later(watched: &Watched, random: &mut Random) -> u64 {
     let now = watched.history.time;
@@ -241,7 +285,7 @@ pub fn any_ppp(random: &mut Random) -> Ppp {
 pub fn any_event(watched: &Watched, random: &mut Random) -> Event<'static> {
     let recorder = &watched.outstation.recorder;
     let left = lives::pulses_left(recorder);
-    match random.below(17) {
+    match random.below(20) {
         0..=4 => Event::Count(recorder.last.wrapping_add(random.below(left + left / 8 + 2) as u32)),
         5..=8 => Event::Clock(later(watched, random)),
         9 => Event::Off,
@@ -250,6 +294,7 @@ pub fn any_event(watched: &Watched, random: &mut Random) -> Event<'static> {
         13 => Event::Reverse,
         14 => Event::Meter(random.bits() as u32),
         15 => Event::Ppp(any_ppp(random)),
+        16..=18 => Event::Adjust(any_shift(recorder.time, random)),
         _ if random.once_in(2) => Event::Reset,
         _ => Event::Rate(random.below(RATES as u64 + 2) as u32),
     }

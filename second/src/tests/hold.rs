@@ -147,7 +147,7 @@ fn refusals_change_nothing() {
     }
     let seen = |player: &mut Player| look.map(|line| player.play_line(1, line.as_bytes()));
     let before = seen(&mut player);
-    for line in refused {
+    for line in refused.into_iter().chain(["adjust 901", "adjust -901", "adjust -1", "adjust --1"]) {
         let answer = player.play_line(1, line.as_bytes()).unwrap();
         assert!(!answer.starts_with("0 "), "{line}");
         assert_eq!(seen(&mut player), before, "{line}");
@@ -208,6 +208,7 @@ fn hostile_numbers_never_panic() {
         table: &mut [u8::MAX; TABLE_BYTES],
     };
     assert_eq!(recorder.step(Event::Count(0), &mut store).1, Answer::refused(DAMAGED));
+    assert_eq!(recorder.step(Event::Adjust(i64::MIN), &mut store).1, Answer::refused(DAMAGED));
     assert_eq!(ledger::open(&IDENTIFIER, hostile, hostile, &mut []), Answer::refused(OUT_OF_RANGE));
     assert_eq!(ledger::summary(&[255; 200], hostile).answer, DAMAGED);
 }

@@ -121,6 +121,7 @@ fn recorder_with(identifier: Identifier) -> u32 {
         Event::Rate(1),
         Event::Reverse,
         Event::Ppp(*b"ABC"),
+        Event::Adjust(0),
     ] {
         outstation.recorder = begun;
         numbers.push(outstation.event(event));

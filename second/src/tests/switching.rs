@@ -142,6 +142,7 @@ fn a_table_refuses_rate_alone() {
         Event::Reset,
         Event::Reverse,
         Event::Ppp(*b"abc"),
+        Event::Adjust(0),
         Event::Off,
         Event::On(time),
     ] {
@@ -159,7 +160,9 @@ fn a_room_of_another_length() {
         let before = outstation.recorder;
         outstation.table.resize(length, 1);
         let w = table(&W);
-        for event in [Event::Count(1), Event::Clock(before.time), Event::Off, Event::Rate(1), Event::Load(&w)] {
+        for event in
+            [Event::Count(1), Event::Clock(before.time), Event::Off, Event::Rate(1), Event::Adjust(0), Event::Load(&w)]
+        {
             assert_eq!(outstation.event(event), WRONG_LENGTH);
         }
         // A read looks at no table.

@@ -18,7 +18,7 @@ fn begin(life: &mut Life) {
     life.set_up(Class::A, UNIT_A_PULSE, time, 0, 0);
 }
 
-/// Time passes, by Clock or by On; the rate follows where the room names one.
+/// Time passes, by Clock or by On, and is adjusted; the rate follows where the room names one.
 fn follow(life: &mut Life) {
     let passed = life.random.below(2 * SECONDS_PER_DAY);
     let time = (life.time() + passed).min(LAST_TIME);
@@ -27,6 +27,10 @@ fn follow(life: &mut Life) {
     pass(life, by_on, time);
     life.pulses(1);
     life.say("show");
+    if life.random.once_in(2) {
+        life.random_adjust();
+        life.say("show");
+    }
 }
 
 /// Loaded tables of which bytes are poked, one after the other.
@@ -53,7 +57,7 @@ pub fn pokes(seed: u64) -> Script {
     life.finish("damaged rooms")
 }
 
-/// Every byte as the rate that a damaged room names, by Clock and by On.
+/// Every byte as the rate that a damaged room names, by Clock, by On and by Adjust.
 fn every_rate(life: &mut Life) {
     begin(life);
     life.say_all(&["blank", "at 1 0000 1", "default 1", "load"]);
@@ -65,6 +69,9 @@ fn every_rate(life: &mut Life) {
             pass(life, by_on, time);
             life.say("show");
         }
+        // Another byte, so that it is the adjustment by which a rate is met.
+        life.say(format!("poke table {} {}", SLOT_BYTES - 1, u8::MAX - rate));
+        life.say_all(&["adjust 0", "show"]);
     }
 }
 

@@ -59,13 +59,14 @@ fn edited(life: &mut Life) -> String {
 }
 
 fn event(life: &mut Life) -> String {
-    match life.random.below(12) {
+    match life.random.below(14) {
         0..=4 => "load".to_string(),
         5 => format!("load {}", TABLE_BYTES as u64 - 2 + life.random.below(4)),
         6 | 7 => format!("rate {}", about(life, RATES as u64)),
         8 => format!("count {}", life.player.recorder.last.wrapping_add(life.random.below(500) as u32)),
         9 => "access".to_string(),
         10 => "off".to_string(),
+        11 | 12 => format!("adjust {}", life.random_shift()),
         _ => "reset".to_string(),
     }
 }

@@ -1,4 +1,4 @@
-//! Lives with a table loaded: clocks and outages about its switching times and midnights, loads and reloads, Rate in
+//! Lives with a table loaded: clocks, adjustments and outages about its switching times and midnights, loads and reloads, Rate in
 //! between; every day of the calendar; and one table in many orders.
 
 use super::{default, every_year, exception, random_entries, switching_time, weekdays};
@@ -85,7 +85,7 @@ fn next_time(life: &mut Life, entries: &[Slot], days: u64) -> u64 {
 }
 
 fn step(life: &mut Life, entries: &[Slot]) {
-    match life.random.below(20) {
+    match life.random.below(22) {
         0..=9 => {
             let time = next_time(life, entries, 1);
             life.clock(time);
@@ -112,6 +112,10 @@ fn step(life: &mut Life, entries: &[Slot]) {
             life.rate_at(time);
         }
         18 => life.say_all(&["read 2", "check", "listing"]),
+        19 | 20 => {
+            life.random_adjust();
+            use_energy(life);
+        }
         _ => life.say_all(&["clock @0", "count 0"]),
     }
     life.say("show");
@@ -190,8 +194,8 @@ fn default_type(entries: &[Slot]) -> u8 {
     entries.iter().find(|entry| entry[0] == DEFAULT).map_or(1, |entry| entry[1])
 }
 
-/// Each rank on top of the ranks below it, in any order, on each weekday: by a load, by the midnight before and by an
-/// On behind it.
+/// Each rank on top of the ranks below it, in any order, on each weekday: by a load, by the midnight before, by an
+/// adjustment and by an On behind it.
 pub fn ranks(seed: u64) -> Script {
     let mut life = Life::new(seed);
     for weekday in 0..WEEKDAYS {
@@ -213,8 +217,11 @@ pub fn ranks(seed: u64) -> Script {
             life.edit(&entries);
             begin_at(&mut life, today * SECONDS_PER_DAY - 1);
             life.say_all(&["load", "show"]);
+            if life.random.once_in(2) {
+                life.say_all(&["adjust 1", "show"]);
+            }
             life.clock(today * SECONDS_PER_DAY);
-            life.say_all(&["show", "off"]);
+            life.say_all(&["show", "adjust 1", "show", "off"]);
             life.on(today * SECONDS_PER_DAY + second_of(weekday));
             life.say_all(&["show", "load", "show", "off"]);
             life.on((today + 1) * SECONDS_PER_DAY);

@@ -1,3 +1,4 @@
+use Rattle.recorder.proofs.Effects.{adjust-begun}
 use borrow.Author.Needs.{needs}
 use Rattle.recorder.proofs.Event.time.Statement.{statement}
 use Rattle.recorder.proofs.Event.time.Tie as tie
@@ -32,6 +33,12 @@ enum-told-7 c = search needs
 enum-told-8 : tie.Need-enum-told-8
 enum-told-8 c = search needs
 
+enum-known-self-3 : tie.Need-enum-known-self-3
+enum-known-self-3 c = search needs
+
+time-requires : tie.Need-time-requires
+time-requires c κs = search (adjust-begun, needs)
+
 returns : tie.Need-returns
 returns c = search needs
 
@@ -62,6 +69,9 @@ returns-9 c = search needs
 returns-10 : tie.Need-returns-10
 returns-10 c = search needs
 
+returns-11 : tie.Need-returns-11
+returns-11 c = cc
+
 pub time-spec : {M : Type 1} → statement M
 time-spec =
     tie.close
@@ -76,6 +86,8 @@ time-spec =
     enum-told-6
     enum-told-7
     enum-told-8
+    enum-known-self-3
+    time-requires
     returns
     returns-2
     returns-3
@@ -85,4 +97,5 @@ time-spec =
     returns-7
     returns-8
     returns-9
-    returns-10)
+    returns-10
+    returns-11)

@@ -1,4 +1,4 @@
-use Rattle.recorder.proofs.Answers.{in-halves, range-counts, no-class, wrong-length, out-of-range, event-judged}
+use Rattle.recorder.proofs.Answers.{in-halves, range-counts, range-time, no-class, wrong-length, out-of-range, event-judged}
 use borrow.Author.Needs.{needs}
 use Rattle.recorder.proofs.Recorder.answer.Statement.{statement}
 use Rattle.recorder.proofs.Recorder.answer.Tie as tie
@@ -25,7 +25,7 @@ returns-3 : tie.Need-returns-3
 returns-3 c = search (out-of-range, in-halves)
 
 event-answer-requires : tie.Need-event-answer-requires
-event-answer-requires c κs = search (range-counts, in-halves)
+event-answer-requires c κs = search (range-counts, range-time, in-halves)
 
 returns-4 : tie.Need-returns-4
 returns-4 c = search (event-judged, in-halves)

@@ -1,6 +1,6 @@
 use Rattle.recorder.specs.Effect.{flagToday, after}
 use Rattle.recorder.proofs.Answers.{accepted-counts, accepted-resets, accepted-flags}
-use Rattle.recorder.proofs.Effects.{no-clock, no-on}
+use Rattle.recorder.proofs.Effects.{no-clock, no-on, no-adjust}
 use borrow.Author.Needs.{needs}
 use Rattle.recorder.proofs.Recorder.changed.Statement.{statement}
 use Rattle.recorder.proofs.Recorder.changed.Tie as tie
@@ -65,6 +65,9 @@ enum-known-event-4 c = search needs
 ppp-is-requires : tie.Need-ppp-is-requires
 ppp-is-requires c κs = search needs
 
+enum-told-7 : tie.Need-enum-told-7
+enum-told-7 c = search needs
+
 returns : tie.Need-returns
 unfolding after
 returns c = rw (c .before .before .event .given .1, c .counted .ensures)
@@ -109,6 +112,9 @@ returns-10 : tie.Need-returns-10
 unfolding after
 returns-10 c = rw (c .before .before .event4 .given .1, c .ppp-is .ensures)
 
+returns-11 : tie.Need-returns-11
+returns-11 c = search no-adjust
+
 pub changed-spec : {M : Type 1} → statement M
 changed-spec =
     tie.close
@@ -133,6 +139,7 @@ changed-spec =
     reversed-requires
     enum-known-event-4
     ppp-is-requires
+    enum-told-7
     returns
     returns-2
     returns-3
@@ -144,4 +151,5 @@ changed-spec =
     returns-7
     returns-8
     returns-9
-    returns-10)
+    returns-10
+    returns-11)

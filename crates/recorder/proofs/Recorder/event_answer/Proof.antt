@@ -63,6 +63,12 @@ enum-known-event-5 c = search needs
 ppp-answer-requires : tie.Need-ppp-answer-requires
 ppp-answer-requires c κs = search needs
 
+enum-known-event-6 : tie.Need-enum-known-event-6
+enum-known-event-6 c = search needs
+
+shift-answer-requires : tie.Need-shift-answer-requires
+shift-answer-requires c κs = search needs
+
 returns : tie.Need-returns
 unfolding eventAnswer wrongPower
 returns c = rw (c .before .before .event .given .1) (c .count-answer .ensures)
@@ -103,6 +109,10 @@ returns-10 : tie.Need-returns-10
 unfolding eventAnswer wrongPower
 returns-10 c = rw (c .before .before .event5 .given .1) (c .ppp-answer .ensures)
 
+returns-11 : tie.Need-returns-11
+unfolding eventAnswer wrongPower
+returns-11 c = rw (c .before .before .event6 .given .1) (c .shift-answer .ensures)
+
 pub event-answer-spec : {M : Type 1} → statement M
 event-answer-spec =
     tie.close
@@ -127,6 +137,8 @@ event-answer-spec =
     power-answer-requires-5
     enum-known-event-5
     ppp-answer-requires
+    enum-known-event-6
+    shift-answer-requires
     returns
     returns-2
     returns-3
@@ -136,4 +148,5 @@ event-answer-spec =
     returns-7
     returns-8
     returns-9
-    returns-10)
+    returns-10
+    returns-11)

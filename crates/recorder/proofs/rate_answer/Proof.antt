@@ -1,6 +1,6 @@
 use borrow.Author.Needs.{needs}
-use Rattle.recorder.proofs.step.rate_answer.Statement.{statement}
-use Rattle.recorder.proofs.step.rate_answer.Tie as tie
+use Rattle.recorder.proofs.rate_answer.Statement.{statement}
+use Rattle.recorder.proofs.rate_answer.Tie as tie
 
 rate-ok-requires : tie.Need-rate-ok-requires
 rate-ok-requires c κs = search needs

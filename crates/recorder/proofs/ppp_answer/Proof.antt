@@ -1,6 +1,6 @@
 use borrow.Author.Needs.{needs}
-use Rattle.recorder.proofs.step.ppp_answer.Statement.{statement}
-use Rattle.recorder.proofs.step.ppp_answer.Tie as tie
+use Rattle.recorder.proofs.ppp_answer.Statement.{statement}
+use Rattle.recorder.proofs.ppp_answer.Tie as tie
 
 ppp-ok-requires : tie.Need-ppp-ok-requires
 ppp-ok-requires c κs = search needs

@@ -1,6 +1,6 @@
 use borrow.Author.Needs.{needs}
-use Rattle.recorder.proofs.step.time_answer.Statement.{statement}
-use Rattle.recorder.proofs.step.time_answer.Tie as tie
+use Rattle.recorder.proofs.time_answer.Statement.{statement}
+use Rattle.recorder.proofs.time_answer.Tie as tie
 
 first-of-requires : tie.Need-first-of-requires
 first-of-requires c κs = search needs
