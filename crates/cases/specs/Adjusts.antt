@@ -5,7 +5,6 @@ use mathlib.Core.List.{List, [], _∷_, _++_, map}
 use Rattle.laws.specs.Bits.{bit}
 use Rattle.registers.specs.declared.Shift.{Shift}
 use Rattle.registers.specs.declared.Shift.the-variants.{Ahead, Back}
-use Rattle.recorder.specs.declared.Event.{Event}
 use Rattle.recorder.specs.declared.Event.the-variants.{Count, Clock, Off, On, Adjust}
 use Rattle.recorder.specs.Recorder.{Mem}
 use Rattle.recorder.specs.Step.{run}

@@ -1,8 +1,8 @@
 -- An Adjust: the recorder's answer, and the table's rate at the new time.
 -- Assumes nothing.
 use Prim.Native.Nat.{ℕ}
-use mathlib.Core.Path.{_≡_, refl, sym, ap, _∙_}
-use mathlib.Core.Bool.{true, false, not, cond}
+use mathlib.Core.Path.{_≡_, sym, ap, _∙_}
+use mathlib.Core.Bool.{true, not, cond}
 use lib.Dec.{eqb}
 use lib.ListN.{length}
 use borrow.Author.Tests.{eq-eqb, eqb-true}
@@ -18,7 +18,7 @@ use Rattle.recorder.specs.Answer.{noClass, answerWith, answerOf as stepAnswer}
 use Rattle.recorder.specs.Step.{step}
 use Rattle.tariff.specs.Table.{tableSize}
 use Rattle.outstation.specs.Outstation.{Site, Done, withMem, of, answerOf, rateThen, happens}
-use Rattle.outstation.specs.Adjusted.{Adjusts, SiteAdjusts}
+use Rattle.outstation.specs.Adjusted.{SiteAdjusts}
 use Rattle.outstation.proofs.Laws.{happens-refused, happens-done}
 use Rattle.outstation.proofs.Counted.{time-energy}
 

@@ -25,7 +25,7 @@ use Rattle.recorder.specs.Effect.{accessed, flagFrom, flagToday, after as effec
 use Rattle.recorder.specs.Answer.{answerOf as stepAnswer}
 use Rattle.recorder.specs.Step.{step}
 use Rattle.recorder.proofs.Kept.{Sound}
-use Rattle.outstation.specs.Outstation.{Site, Happening, of, load, tellsTime, answerOf, after, happens, run}
+use Rattle.outstation.specs.Outstation.{Site, Happening, of, load, tellsTime, answerOf, happens, run}
 use Rattle.outstation.specs.Lives.{energyIn, countedAt}
 use Rattle.outstation.proofs.Runs.{event-zero}
 use Rattle.outstation.proofs.Agreeing.{Going, goes-on}

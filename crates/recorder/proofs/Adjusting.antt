@@ -1,52 +1,59 @@
--- A time adjust: what holds at both ends of its range, on either side of zero, and everywhere between.
+-- A time adjust: what holds at both ends of its range, on either side of zero, and everywhere between; and while power is off.
 -- Assumes nothing.
 use Prim.Native.Nat.{ℕ, _+_, _-_, _%_, _/_, _<_, _≤_}
-use mathlib.Core.Path.{_≡_, refl, sym, ap, _∙_}
+use mathlib.Core.Path.{_≡_, refl, sym, _∙_}
 use mathlib.Core.Bool.{Bool, true, false, cond}
 use native.Mathlib.Decide.{decLt}
 use native.Mathlib.Omega.{arith}
 use borrow.Author.Tests.{eq-eqb, ne-eqb, lt-ltb, le-ltb, le-leb, lt-leb}
 use lib.Dec.{ltb, leb, eqb}
 use lib.ListN.{length}
-use Rattle.laws.specs.Each.{each, forTo}
-use Rattle.laws.proofs.Loop.{for-on}
+use Rattle.laws.specs.Each.{each}
 use Rattle.laws.proofs.Split.{by-dec}
 use Rattle.calendar.specs.Clock.{secondsOfHalf, timesInAll}
 use Rattle.registers.specs.declared.Shift.{Shift}
 use Rattle.registers.specs.declared.Shift.the-variants.{Ahead, Back}
 use Rattle.registers.specs.Shift.{tooFar, early, late, shifted}
-use Rattle.recorder.specs.Recorder.{Recorder, Mem, Adjust, with, capOf, halfOf}
-use Rattle.recorder.specs.Boundary.{closeOne, closeAt, advanceTo}
+use Rattle.recorder.specs.Recorder.{Recorder, Mem, Adjust, with, capOf}
+use Rattle.recorder.specs.Boundary.{advanceTo}
 use Rattle.recorder.specs.Effect.{accessed, after}
 use Rattle.recorder.specs.Answer.{wrongPower, eventAnswer, answerOf}
-use Rattle.recorder.specs.Step.{Done, step}
-use Rattle.recorder.specs.Adjusted.{Ready, refuses, stays, closes, Ends}
+use Rattle.recorder.specs.Step.{step}
+use Rattle.recorder.specs.Adjusted.{Ready, refuses, stays, closes, Ends, OffRefuses}
 use Rattle.recorder.proofs.Ranges.{Ranges, ranges}
 use Rattle.recorder.proofs.Answers.{right-lengths, days-few}
 use Rattle.recorder.proofs.Kept.{Sound, sound-answer}
 
-module _ (x : Mem) (k : Ready x) where
+in-ranges : (b : Bool) (x : Mem) → Ready b x → Ranges (x .recorder)
+in-ranges b x k = ranges (x .recorder) (k .range)
+
+sound : (b : Bool) (x : Mem) → Ready b x → Sound x
+sound b x k =
+    let r = x .recorder in
+    let g = in-ranges b x k in
+    let f = right-lengths (capOf r) (length (x .store .values)) (length (x .store .starts)) (length (x .store .marks)) (k .lengths) in
+    record {
+      ranges = g;
+      fits = record { some = omega (arith, g .clock .low, g .clock .high); most = days-few (r .identity .class); values = f .0; starts = f .1; marks = f .2 };
+    }
+
+pub off-refuses : (x : Mem) → Ready false x → OffRefuses x
+unfolding step eventAnswer wrongPower
+off-refuses x k h =
+    let one : answerOf x (Adjust h) ≡ 1 = sound-answer x (Adjust h) (sound false x k) ∙ rw (k .on) in
+    rw one
+
+module _ (x : Mem) (k : Ready true x) where
   abbrev r : Recorder
   r = x .recorder
 
   abbrev now : ℕ
   now = r .clock .time
 
-  in-ranges : Ranges r
-  in-ranges = ranges r (k .range)
-
-  sound : Sound x
-  sound =
-      let f = right-lengths (capOf r) (length (x .store .values)) (length (x .store .starts)) (length (x .store .marks)) (k .lengths) in
-      record {
-        ranges = in-ranges;
-        fits = record { some = omega (arith, in-ranges .clock .low, in-ranges .clock .high); most = days-few (r .identity .class); values = f .0; starts = f .1; marks = f .2 };
-      }
-
   -- the answer, by the three tests, and what is done by it
   answer-is : (h : Shift) → answerOf x (Adjust h) ≡ cond (tooFar h) 6 (cond (early now h) 13 (cond (late now h) 2 0))
   unfolding eventAnswer wrongPower
-  answer-is h = sound-answer x (Adjust h) sound ∙ rw (k .on)
+  answer-is h = sound-answer x (Adjust h) (sound true x k) ∙ rw (k .on)
 
   far : (h : Shift) → tooFar h ≡ true → step x (Adjust h) ≡ refuses x 6
   unfolding step
@@ -114,7 +121,7 @@ module _ (x : Mem) (k : Ready x) where
     at-900-back = back 900 (omega arith);
     at-1-back = back 1 (omega arith);
     at-0-back = back 0 (omega arith) ∙ (let t : now - 0 ≡ now = omega arith in rw (le-leb 0 (now % 1800) (omega arith), t));
-    at-0-ahead = goes-ahead 0 (omega arith) (omega (arith, in-ranges .clock .time))
+    at-0-ahead = goes-ahead 0 (omega arith) (omega (arith, in-ranges true x k .clock .time))
         ∙ (let t : now + 0 ≡ now = omega arith in rw (lt-leb 1800 (now % 1800 + 0) (omega arith), t));
     at-1-ahead = ahead 1 (omega arith) ∙ rw last-second;
     at-900-ahead = ahead 900 (omega arith) ∙ rw second-half;

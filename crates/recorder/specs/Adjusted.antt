@@ -1,10 +1,11 @@
--- What an Adjust does to a recorder in range with power on and a store of its lengths (docs/RULES.md, "Events"): at both ends of its range, on either side of zero, and everywhere between.
+-- What an Adjust does to a recorder in range with a store of its lengths (docs/RULES.md, "Events"): with power on, at both ends of its range, on either side of zero, and everywhere between; with power off.
 use Prim.Native.Nat.{ℕ, _+_, _-_, _%_, _<_, _≤_}
 use mathlib.Core.Path.{_≡_}
-use mathlib.Core.Bool.{true, cond}
+use mathlib.Core.Bool.{Bool, true, cond}
 use lib.Dec.{ltb, leb, eqb}
 use lib.ListN.{length}
 use Rattle.calendar.specs.Clock.{timesInAll}
+use Rattle.registers.specs.declared.Shift.{Shift}
 use Rattle.registers.specs.declared.Shift.the-variants.{Ahead, Back}
 use Rattle.store.specs.Class.{rightLengths}
 use Rattle.recorder.specs.Recorder.{Mem, Adjust, with, capOf, withClock}
@@ -13,9 +14,9 @@ use Rattle.recorder.specs.Boundary.{closeOne}
 use Rattle.recorder.specs.Effect.{accessed}
 use Rattle.recorder.specs.Step.{Done, step}
 
-pub record Ready (x : Mem) : Type 0 where
+pub record Ready (power : Bool) (x : Mem) : Type 0 where
   pub range : inRange (x .recorder) ≡ true
-  pub on : x .recorder .clock .on ≡ true
+  pub on : x .recorder .clock .on ≡ power
   pub lengths : rightLengths (capOf (x .recorder)) (length (x .store .values)) (length (x .store .starts)) (length (x .store .marks)) ≡ true
 
 module _ (x : Mem) where
@@ -61,3 +62,7 @@ module _ (x : Mem) where
     pub back : (n : ℕ) → n ≤ 900 → step x (Adjust (Back n)) ≡ cond (leb n passed) (stays (now - n)) (refuses 13)
     pub ahead : (n : ℕ) → n ≤ 900 → step x (Adjust (Ahead n)) ≡ cond (ltb (now + n) timesInAll) (cond (leb 1800 (passed + n)) (closes (now + n)) (stays (now + n))) (refuses 2)
     pub far-ahead : (n : ℕ) → 900 < n → step x (Adjust (Ahead n)) ≡ refuses 6
+
+  -- with power off, whatever the number
+  abbrev pub OffRefuses : Type 0
+  OffRefuses = (h : Shift) → step x (Adjust h) ≡ refuses 1
