@@ -1,6 +1,6 @@
--- The starred cases, and the adjustments of the clock: for each list one statement.
+-- The starred cases, and the adjustments of the clock: one statement over one list.
 -- Assumes nothing.
-use mathlib.Core.List.{map}
+use mathlib.Core.List.{map, _++_}
 use mathlib.Core.Path.{_≡_, refl}
 use Rattle.format.specs.Identifier.{freeByte, identByte, identTest, identOk, withPpp}
 use Rattle.marks.specs.Marks.{taken}
@@ -21,10 +21,6 @@ use Rattle.recorder.specs.Stored.{advanced}
 use Rattle.cases.specs.Cases.{Case, cases}
 use Rattle.cases.specs.Adjusts.{adjustments}
 
-pub starred : map (λ (c : Case). c .given) cases ≡ map (λ (c : Case). c .due) cases
+pub starred : map (λ (c : Case). c .given) (cases ++ adjustments) ≡ map (λ (c : Case). c .due) (cases ++ adjustments)
 unfolding each allBelow leapDay months monthLength realDate freeByte identByte identTest identOk withPpp taken ratesOk addedOf unitsWith energyCounted pushAt closed opened turned flagAt flagged filled begun inRange ended closeOne advanceTo flagToday flagFrom after wrongPower eventAnswer answerWith answerOf step run setUpWith started fresh blank made setUp endedOn advanced
 starred = refl
-
-pub adjusted : map (λ (c : Case). c .given) adjustments ≡ map (λ (c : Case). c .due) adjustments
-unfolding each allBelow leapDay months monthLength realDate freeByte identByte identTest identOk withPpp taken ratesOk addedOf unitsWith energyCounted pushAt closed opened turned flagAt flagged filled begun inRange ended closeOne advanceTo flagToday flagFrom after wrongPower eventAnswer answerWith answerOf step run setUpWith started fresh blank made setUp endedOn advanced
-adjusted = refl

@@ -7,21 +7,20 @@ use native.Mathlib.Decide.{decLt}
 use native.Mathlib.Omega.{arith}
 use borrow.Author.Tests.{eq-eqb, ne-eqb, lt-ltb, le-ltb, le-leb, lt-leb}
 use lib.Dec.{ltb, leb, eqb}
-use lib.ListN.{length}
 use Rattle.laws.specs.Each.{each}
 use Rattle.laws.proofs.Split.{by-dec}
 use Rattle.calendar.specs.Clock.{secondsOfHalf, timesInAll}
 use Rattle.registers.specs.declared.Shift.{Shift}
 use Rattle.registers.specs.declared.Shift.the-variants.{Ahead, Back}
 use Rattle.registers.specs.Shift.{tooFar, early, late, shifted}
-use Rattle.recorder.specs.Recorder.{Recorder, Mem, Adjust, with, capOf}
+use Rattle.recorder.specs.Recorder.{Recorder, Mem, Clock, Access, Adjust, with}
 use Rattle.recorder.specs.Boundary.{advanceTo}
 use Rattle.recorder.specs.Effect.{accessed, after}
 use Rattle.recorder.specs.Answer.{wrongPower, eventAnswer, answerOf}
 use Rattle.recorder.specs.Step.{step}
 use Rattle.recorder.specs.Adjusted.{Ready, refuses, stays, closes, Ends, OffRefuses}
 use Rattle.recorder.proofs.Ranges.{Ranges, ranges}
-use Rattle.recorder.proofs.Answers.{right-lengths, days-few}
+use Rattle.recorder.proofs.Answers.{lengths-fit}
 use Rattle.recorder.proofs.Kept.{Sound, sound-answer}
 
 in-ranges : (b : Bool) (x : Mem) → Ready b x → Ranges (x .recorder)
@@ -31,11 +30,7 @@ sound : (b : Bool) (x : Mem) → Ready b x → Sound x
 sound b x k =
     let r = x .recorder in
     let g = in-ranges b x k in
-    let f = right-lengths (capOf r) (length (x .store .values)) (length (x .store .starts)) (length (x .store .marks)) (k .lengths) in
-    record {
-      ranges = g;
-      fits = record { some = omega (arith, g .clock .low, g .clock .high); most = days-few (r .identity .class); values = f .0; starts = f .1; marks = f .2 };
-    }
+    record { ranges = g; fits = lengths-fit r (x .store .values) (x .store .starts) (x .store .marks) (omega (arith, g .clock .low, g .clock .high)) (k .lengths) }
 
 pub off-refuses : (x : Mem) → Ready false x → OffRefuses x
 unfolding step eventAnswer wrongPower
@@ -115,6 +110,19 @@ module _ (x : Mem) (k : Ready true x) where
       (λ y. lt-leb 1800 (now % 1800 + 900) (omega arith) ∙ sym (lt-leb 900 (now % 1800) y))
       (λ y. le-leb 1800 (now % 1800 + 900) (omega arith) ∙ sym (le-leb 900 (now % 1800) (omega arith)))
 
+  -- a move that moves nothing, once the half-hour is marked
+  nothing-moved : (t : ℕ) → t ≡ now → advanceTo t (with x (accessed r)) ≡ with x (accessed r)
+  unfolding advanceTo each
+  nothing-moved t e = let z : now / secondsOfHalf - now / secondsOfHalf ≡ 0 = omega arith in rw (e, z, k .on)
+
+  as-clock : (n : ℕ) → after x (Adjust (Ahead n)) ≡ after (after x Access) (Clock (now + n))
+  unfolding after
+  as-clock n = refl
+
+  as-access : (after x (Adjust (Ahead 0)) ≡ after x Access) × (after x (Adjust (Back 0)) ≡ after x Access)
+  unfolding after
+  as-access = (nothing-moved (now + 0) (omega arith), nothing-moved (now - 0) (omega arith))
+
   pub ends : Ends x
   ends = record {
     at-901-back = far (Back 901) refl;
@@ -130,4 +138,6 @@ module _ (x : Mem) (k : Ready true x) where
     back = back;
     ahead = ahead;
     far-ahead = λ n l. far (Ahead n) (lt-ltb 900 n l);
+    as-clock = as-clock;
+    as-access = as-access;
   }

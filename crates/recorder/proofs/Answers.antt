@@ -92,6 +92,11 @@ days-few C = omega arith
 days-few D = omega arith
 days-few Blank = omega arith
 
+pub lengths-fit : (r : Recorder) (v s m : List ℕ) → 1 ≤ capOf r → rightLengths (capOf r) (length v) (length s) (length m) ≡ true → Fits (capOf r) (store v s m)
+lengths-fit r v s m some e =
+    let f = right-lengths (capOf r) (length v) (length s) (length m) e in
+    record { some = some; most = days-few (r .identity .class); values = f .0; starts = f .1; marks = f .2 }
+
 module _ (r : Recorder) (e : Event) (v s m : List ℕ) (a : answerOf (mem r v s m) e ≡ 0) where
   none : NoneFails (checks r e (length v) (length s) (length m))
   none = answered r e (length v) (length s) (length m) (given-answer (mem r v s m) e a)
@@ -100,9 +105,7 @@ module _ (r : Recorder) (e : Event) (v s m : List ℕ) (a : answerOf (mem r v s 
   accepted-ranges = ranges r (not-false (inRange r) (none .1 .1 .0))
 
   pub accepted-fits : Fits (capOf r) (store v s m)
-  accepted-fits =
-      let f = right-lengths (capOf r) (length v) (length s) (length m) (not-false (rightLengths (capOf r) (length v) (length s) (length m)) (none .1 .0)) in
-      record { some = omega (arith, eqb-false (capOf r) 0 (none .0)); most = days-few (r .identity .class); values = f .0; starts = f .1; marks = f .2 }
+  accepted-fits = lengths-fit r v s m (omega (arith, eqb-false (capOf r) 0 (none .0))) (not-false (rightLengths (capOf r) (length v) (length s) (length m)) (none .1 .0))
 
   pub accepted-power : wrongPower (r .clock .on) e ≡ false
   accepted-power = none .1 .1 .1 .0

@@ -8,10 +8,10 @@ use Rattle.calendar.specs.Clock.{timesInAll}
 use Rattle.registers.specs.declared.Shift.{Shift}
 use Rattle.registers.specs.declared.Shift.the-variants.{Ahead, Back}
 use Rattle.store.specs.Class.{rightLengths}
-use Rattle.recorder.specs.Recorder.{Mem, Adjust, with, capOf, withClock}
+use Rattle.recorder.specs.Recorder.{Mem, Clock, Access, Adjust, with, capOf, withClock}
 use Rattle.recorder.specs.Range.{inRange}
 use Rattle.recorder.specs.Boundary.{closeOne}
-use Rattle.recorder.specs.Effect.{accessed}
+use Rattle.recorder.specs.Effect.{accessed, after}
 use Rattle.recorder.specs.Step.{Done, step}
 
 pub record Ready (power : Bool) (x : Mem) : Type 0 where
@@ -62,6 +62,9 @@ module _ (x : Mem) where
     pub back : (n : ℕ) → n ≤ 900 → step x (Adjust (Back n)) ≡ cond (leb n passed) (stays (now - n)) (refuses 13)
     pub ahead : (n : ℕ) → n ≤ 900 → step x (Adjust (Ahead n)) ≡ cond (ltb (now + n) timesInAll) (cond (leb 1800 (passed + n)) (closes (now + n)) (stays (now + n))) (refuses 2)
     pub far-ahead : (n : ℕ) → 900 < n → step x (Adjust (Ahead n)) ≡ refuses 6
+    -- so forward is as Clock, once the running half-hour is marked, and zero as Access
+    pub as-clock : (n : ℕ) → after x (Adjust (Ahead n)) ≡ after (after x Access) (Clock (now + n))
+    pub as-access : (after x (Adjust (Ahead 0)) ≡ after x Access) × (after x (Adjust (Back 0)) ≡ after x Access)
 
   -- with power off, whatever the number
   abbrev pub OffRefuses : Type 0
