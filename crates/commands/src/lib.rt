@@ -82,10 +82,10 @@ const DATES: u64 = 999999;
 // The table.
 fn named(name: u64) -> Command {
     match name {
-        names::SETUP => Command(METER, 6, 7, SET_UP, CLASSES, SMALL, LARGE),
+        names::SETUP => Command(METER, 7, 8, SET_UP, CLASSES, SMALL, LARGE),
         names::COUNT | names::METER | names::RATE => Command(METER, 1, 1, NUMBER, SMALL, ANY, ANY),
         names::CLOCK | names::ON => Command(METER, 1, 2, TIME, LARGE, ANY, ANY),
-        names::OFF | names::ACCESS | names::RESET | names::REVERSE => {
+        names::OFF | names::ACCESS | names::RESET | names::REVERSE | names::SINGLE => {
             Command(METER, 0, 0, NUMBER, ANY, ANY, ANY)
         }
         names::PPP => Command(METER, 1, 1, PPP, ANY, ANY, ANY),
@@ -184,20 +184,22 @@ fn plain(kind: u64, what: u64, name: u64, line: &[u8], n: usize) -> Said {
         c: words::argument(line, 3, n),
         d: words::argument(line, 4, n),
         e: 0,
+        f: 0,
     }
 }
 
-// Class, weight, time, total and counter: the time is one word or two, so that the last words are counted from the end.
+// Class, weight, time, total, counter and phase kind: the time is one word or two, so that the last words are counted from the end.
 fn start(kind: u64, name: u64, line: &[u8], n: usize) -> Said {
     Said {
         kind: kind,
         name: name,
         n: n,
         a: words::class(script::word(line, 2)),
-        b: words::argument(line, 3, n),
-        c: script::time_at(line, 4, words::less(n, 2)),
+        b: words::argument(line, 4, n),
+        c: script::time_at(line, 5, words::less(n, 2)),
         d: words::argument(line, words::less(n, 1), n),
         e: words::argument(line, n, n),
+        f: words::phase(script::word(line, 3)),
     }
 }
 
@@ -227,6 +229,7 @@ fn is_within(said: Said, command: Command) -> bool {
         & (said.c <= command.6)
         & (said.d <= LARGE)
         & (said.e <= SMALL)
+        & (said.f <= SMALL)
 }
 
 // What a line is, where its numbers are within the command's limits.

@@ -1,4 +1,4 @@
-// Words of a line that are missing, the class that a word names, and seconds with a sign. A word that is none becomes NONE, which is larger than any number, so that the test of a
+// Words of a line that are missing, the class and the phase kind that a word names, and seconds with a sign. A word that is none becomes NONE, which is larger than any number, so that the test of a
 // limit refuses it too.
 
 use format::Number;
@@ -35,6 +35,24 @@ pub fn class(word: &[u8]) -> u64 {
         return script::NONE;
     }
     class_of(word[0])
+}
+
+// ---- a phase kind
+
+// 1 for single phase, 0 for polyphase.
+fn phase_of(letter: u8) -> u64 {
+    match letter {
+        b's' => 1,
+        b'p' => 0,
+        _ => script::NONE,
+    }
+}
+
+pub fn phase(word: &[u8]) -> u64 {
+    if word.len() != 1 {
+        return script::NONE;
+    }
+    phase_of(word[0])
 }
 
 // ---- seconds, back where a `-` stands before them

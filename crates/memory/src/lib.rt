@@ -18,7 +18,7 @@ pub const SHELVES: usize = 32;
 
 // ---- places in the row: the outstation's numbers are first, as `station` has them, then a header's for the given fields
 
-pub const GIVEN: usize = station::LOADED + 1;
+pub const GIVEN: usize = station::SINGLE + 1;
 
 pub const HEAD_DAYS: usize = GIVEN + desk::HEAD_DAYS;
 

@@ -58,6 +58,7 @@ fn keep_start(said: Said, id: &[u8], row: &mut Row) -> u64 {
     keep_letters(id, row);
     memory::put(row, memory::LENT_CLASS, said.a);
     memory::put(row, rows::CLASS, said.a);
+    memory::put(row, station::SINGLE, said.f);
     memory::put(row, rows::WEIGHT, said.b);
     memory::put(row, rows::TIME, said.c);
     memory::put(row, rows::TOTAL, said.d);
@@ -150,10 +151,11 @@ fn happens(
 }
 
 fn happening(name: u64, n: u64, back: u64) -> Happening {
-    if name == names::LOAD {
-        return Happening::Load;
+    match name {
+        names::LOAD => Happening::Load,
+        names::SINGLE => Happening::Single,
+        _ => Happening::Of(event(name, n, back)),
     }
-    Happening::Of(event(name, n, back))
 }
 
 // How much of the editor's table is offered: all of it, or so many bytes.

@@ -1,48 +1,39 @@
 -- Each rate register has the energy of the Counts accepted while its rate was active.
 -- Assumes nothing.
-use Prim.Native.Nat.{ℕ, zero, suc, _+_, _-_, _/_, _%_, _<_}
-use mathlib.Core.Path.{_≡_, refl, ap, _∙_}
+use Prim.Native.Nat.{ℕ, suc, _+_, _-_, _%_, _<_, _≤_}
+use mathlib.Core.Path.{_≡_, refl, sym, ap, _∙_}
 use mathlib.Core.Bool.{Bool, true, false, cond}
 use mathlib.Core.List.{List, [], _∷_}
 use lib.Dec.{eqb}
 use lib.ListN.{length, getD, set, length-set}
 use lib.Seq.{getD-set-other, getD-set-same}
 use native.Mathlib.Omega.{arith}
-use borrow.Author.Tests.{eq-eqb, eqb-true, eqb-false}
-use Rattle.laws.specs.Each.{each}
+use borrow.Author.Tests.{eq-eqb, ne-eqb, eqb-true, eqb-false}
 use Rattle.laws.proofs.Split.{by-test}
 use Rattle.quantity.specs.declared.MilliwattHours.{MilliwattHours}
 use Rattle.quantity.specs.Units.{totalRound, energySum}
-use Rattle.calendar.specs.Clock.{secondsOfHalf}
 use Rattle.registers.specs.declared.Energy.{Energy}
 use Rattle.registers.specs.Energy.{rateCount, noEnergy, addedOf, energyCounted}
 use Rattle.recorder.specs.declared.Event.{Event}
 use Rattle.recorder.specs.declared.Event.the-variants.{Count, Clock, Off, On, Access, Meter, Reset, Rate, Reverse, Ppp, Adjust}
 use Rattle.registers.specs.Shift.{shifted}
-use Rattle.recorder.specs.Recorder.{Mem, with, halfOf}
-use Rattle.recorder.specs.Boundary.{ended, closeOne, closeAt, advanceTo}
+use Rattle.recorder.specs.Recorder.{Mem, with}
+use Rattle.recorder.specs.Boundary.{advanceTo}
 use Rattle.recorder.specs.Effect.{accessed, flagFrom, flagToday, after as effect}
 use Rattle.recorder.specs.Answer.{answerOf as stepAnswer}
 use Rattle.recorder.specs.Step.{step}
 use Rattle.recorder.proofs.Kept.{Sound}
-use Rattle.outstation.specs.Outstation.{Site, Happening, of, load, tellsTime, answerOf, happens, run}
-use Rattle.outstation.specs.Lives.{energyIn, countedAt}
-use Rattle.outstation.proofs.Runs.{event-zero}
-use Rattle.outstation.proofs.Agreeing.{Going, goes-on}
+use Rattle.outstation.specs.declared.Phase.the-variants.{Single}
+use Rattle.outstation.specs.Outstation.{mostRate, Site, Happening, of, load, single, tellsTime, answerOf, happens, run}
+use Rattle.outstation.specs.Lives.{energyIn, countedAt, register}
+use Rattle.outstation.proofs.Steps.{time-energy}
+use Rattle.outstation.proofs.Runs.{Going, event-zero}
+use Rattle.outstation.proofs.Agreeing.{goes-on}
 
 abbrev ratesOf : Mem → List MilliwattHours
 ratesOf y = y .recorder .energy .rates
 
 -- ---- the registers after one event
-
-time-goes : (n i : ℕ) (y : Mem) → each closeAt i n y .recorder .energy ≡ y .recorder .energy
-unfolding each closeOne ended
-time-goes zero i y = refl
-time-goes (suc n) i y = time-goes n (i + 1) (closeAt i y)
-
-pub time-energy : (t : ℕ) (y : Mem) → advanceTo t y .recorder .energy ≡ y .recorder .energy
-unfolding advanceTo
-time-energy t y = time-goes (t / secondsOfHalf - halfOf (y .recorder)) (halfOf (y .recorder)) y
 
 time-rates : (t : ℕ) (y : Mem) → ratesOf (advanceTo t y) ≡ ratesOf y
 time-rates t y = ap (λ (e : Energy). e .rates) (time-energy t y)
@@ -64,13 +55,14 @@ load-rates : (x : Site) (b : List ℕ) → ratesOf (happens x (load b) .after .m
 unfolding happens
 load-rates x b = by-test (eqb (answerOf x (load b)) 0) (λ h. rw h) (λ h. rw h)
 
+pub single-rates : (x : Site) → ratesOf (happens x single .after .mem) ≡ ratesOf (x .mem)
+unfolding happens
+single-rates x = by-test (eqb (answerOf x single) 0) (λ h. rw h) (λ h. rw h)
+
 -- ---- each register after what happens
 
 abbrev active : Site → ℕ
 active x = x .mem .recorder .energy .rate
-
-abbrev register : Site → ℕ → ℕ
-register x i = getD (ratesOf (x .mem)) i noEnergy .0
 
 record Moved (x : Site) (h : Happening) : Type 0 where
   long : length (ratesOf (happens x h .after .mem)) ≡ rateCount
@@ -130,6 +122,7 @@ module _ (x : Site) (s : Sound (x .mem)) (l : length (ratesOf (x .mem)) ≡ rate
   moved (of (Ppp a b c)) = stays (of (Ppp a b c)) refl (happens-rates x (Ppp a b c) refl)
   moved (of (Adjust h)) = stays (of (Adjust h)) refl (happens-rates x (Adjust h) (time-rates (shifted (x .mem .recorder .clock .time) h) (with (x .mem) (accessed (x .mem .recorder)))))
   moved (load b) = stays (load b) refl (load-rates x b)
+  moved single = stays single refl (single-rates x)
 
 -- ---- and after all
 
@@ -144,3 +137,35 @@ counted (h ∷ hs) x g l i k =
     let m = moved x (g .sound) l h in
     counted hs (happens x h .after) (goes-on x h g) (m .long) i k
     ∙ rw (m .each i k) (sums (register x i) (cond (eqb (active x) (suc i)) (energyIn x h) 0) (countedAt (suc i) (happens x h .after) hs))
+
+pub long : (hs : List Happening) (x : Site) → Going x → length (ratesOf (x .mem)) ≡ rateCount → length (ratesOf (run x hs .mem)) ≡ rateCount
+unfolding run
+long [] x g l = l
+long (h ∷ hs) x g l = long hs (happens x h .after) (goes-on x h g) (moved x (g .sound) l h .long)
+
+-- ---- once it is single phase
+
+single-stays : (x : Site) (h : Happening) → x .phase ≡ Single → happens x h .after .phase ≡ Single
+unfolding happens
+single-stays x (of e) p = by-test (eqb (answerOf x (of e)) 0) (λ z. rw z (by-test (tellsTime e) (λ t. rw t p) (λ t. rw t p))) (λ z. rw z p)
+single-stays x (load b) p = by-test (eqb (answerOf x (load b)) 0) (λ z. rw z p) (λ z. rw z p)
+single-stays x single p = by-test (eqb (answerOf x single) 0) (λ z. rw z) (λ z. rw z p)
+
+pub stays-single : (hs : List Happening) (x : Site) → x .phase ≡ Single → run x hs .phase ≡ Single
+unfolding run
+stays-single [] x p = p
+stays-single (h ∷ hs) x p = stays-single hs (happens x h .after) (single-stays x h p)
+
+-- a register above the highest rate is not the active one's
+module _ (i : ℕ) (high : mostRate Single ≤ i) (k : i < rateCount) where
+  other : (x : Site) → Going x → x .phase ≡ Single → eqb (active x) (suc i) ≡ false
+  other x g p = let l = g .keeps .low in let m = ap mostRate p in ne-eqb (active x) (suc i) (λ e. omega (arith, l, m, high, e))
+
+  pub stands : (hs : List Happening) (x : Site) → Going x → length (ratesOf (x .mem)) ≡ rateCount → x .phase ≡ Single → register (run x hs) i ≡ register x i
+  unfolding run
+  stands [] x g l p = refl
+  stands (h ∷ hs) x g l p =
+      let m = moved x (g .sound) l h in
+      stands hs (happens x h .after) (goes-on x h g) (m .long) (single-stays x h p)
+      ∙ m .each i k
+      ∙ rw (other x g p) (sym (same false (register x i) (g .sound .ranges .energy .rates i k)))

@@ -23,8 +23,10 @@ use Rattle.recorder.specs.SetUp.{setUpTests, setUpWith, setUpAnswer, made, blan
 use Rattle.tariff.specs.Table.{tableSize}
 use Rattle.outstation.specs.declared.Answered.{Answered}
 use Rattle.outstation.specs.declared.Outstation.{Outstation}
+use Rattle.outstation.specs.declared.Phase.{Phase}
+use Rattle.outstation.specs.declared.Phase.the-variants.{Poly}
 use Rattle.outstation.specs.Outstation.{Done, done}
-use Rattle.outstation.specs.SetUp.{siteChecks, begun, blankOutstation, setUpSite}
+use Rattle.outstation.specs.SetUp.{siteChecks, begun, blankOutstation, notBegun, setUpSite}
 use Rattle.outstation.specs.Parts.{answered, Told, told, begunOf}
 
 -- a store of one element in each slice fits no class
@@ -45,24 +47,24 @@ module _ (s : SetUp) (x : Store) (b : List ℕ) where
   unfolding setUpWith
   with-room e = rw (eq-eqb (length b) tableSize e)
 
-  site-refused : (n : ℕ) → firstFailing (siteChecks s x b) ≡ n → (n ≡ 0 → ⊥)
-      → setUpSite s x b ≡ record { answer = n; carried = 0; after = record { mem = record { recorder = blank; store = x }; loaded = false; table = b } }
-  unfolding setUpSite
-  site-refused n e ne = rw (e, ne-eqb n 0 ne)
+  module _ (p : Phase) where
+    site-refused : (n : ℕ) → firstFailing (siteChecks s x b) ≡ n → (n ≡ 0 → ⊥) → setUpSite s p x b ≡ record { answer = n; carried = 0; after = notBegun x b }
+    unfolding setUpSite
+    site-refused n e ne = rw (e, ne-eqb n 0 ne)
 
-  site-begun : firstFailing (siteChecks s x b) ≡ 0 → setUpSite s x b ≡ record { answer = 0; carried = 0; after = begun s }
-  unfolding setUpSite
-  site-begun e = rw e
+    site-begun : firstFailing (siteChecks s x b) ≡ 0 → setUpSite s p x b ≡ record { answer = 0; carried = 0; after = begun s p }
+    unfolding setUpSite
+    site-begun e = rw e
 
 -- by the lent slices
-module _ (s : SetUp) (v t m b : List ℕ) (w : Answered) where
+module _ (s : SetUp) (f : Phase) (v t m b : List ℕ) (w : Answered) where
   never : (length b ≡ tableSize → ⊥) → firstFailing (siteChecks s (store v t m) b) ≡ 0 → ⊥
   never ne e = ne (eqb-true (length b) tableSize (not-false _ (none-fails (siteChecks s (store v t m) b) refl e .1 .1 .0)))
 
-  pub set-up-no-room : (length b ≡ tableSize → ⊥) → w ≡ answered blankOutstation (setUpWith s 1 1 1) → done w v t m b ≡ setUpSite s (store v t m) b
+  pub set-up-no-room : (length b ≡ tableSize → ⊥) → w ≡ answered blankOutstation (setUpWith s 1 1 1) → done w v t m b ≡ setUpSite s f (store v t m) b
   set-up-no-room ne u =
       let same = no-room s (store v t m) b ne in
-      ap {B = Done} (λ (d : Answered). done d v t m b) u ∙ sym (site-refused s (store v t m) b (setUpWith s 1 1 1) (sym same) (λ z. never ne (sym same ∙ z)))
+      ap {B = Done} (λ (d : Answered). done d v t m b) u ∙ sym (site-refused s (store v t m) b f (setUpWith s 1 1 1) (sym same) (λ z. never ne (sym same ∙ z)))
 
   module _ (l : length b ≡ tableSize) (d : Stepped) (v₁ t₁ m₁ : List ℕ) (p : stepping d v₁ t₁ m₁ ≡ setUp s (store v t m)) where
     said : d .answer ≡ setUpAnswer s (store v t m)
@@ -83,30 +85,31 @@ module _ (s : SetUp) (v t m b : List ℕ) (w : Answered) where
     same-answer : d .answer ≡ firstFailing (siteChecks s (store v t m) b)
     same-answer = said ∙ with-room s (store v t m) b l
 
-    by-set-up : done (begunOf d b .answered) v₁ t₁ m₁ (begunOf d b .room) ≡ setUpSite s (store v t m) b
+    by-set-up : done (begunOf d f b .answered) v₁ t₁ m₁ (begunOf d f b .room) ≡ setUpSite s f (store v t m) b
     unfolding begunOf
     by-set-up =
         by-test (eqb (d .answer) 0)
         (λ h.
         let z = eqb-true (d .answer) 0 h in
         rw (h, z)
-        (ap {B = Done} (λ (k : Mem). record { answer = 0; carried = 0; after = record { mem = k; loaded = false; table = replicate tableSize 0 } }) (begun-left z)
-        ∙ sym (site-begun s (store v t m) b (sym same-answer ∙ z))))
+        (ap {B = Done} (λ (k : Mem). record { answer = 0; carried = 0; after = record { mem = k; loaded = false; phase = f; table = replicate tableSize 0 } }) (begun-left z)
+        ∙ sym (site-begun s (store v t m) b f (sym same-answer ∙ z))))
         (λ h.
         let ne = eqb-false (d .answer) 0 h in
         rw h
-        (ap {B = Done} (λ (k : Mem). record { answer = d .answer; carried = 0; after = record { mem = k; loaded = false; table = b } }) (refused-left ne)
-        ∙ sym (site-refused s (store v t m) b (d .answer) (sym same-answer) ne)))
+        (ap {B = Done} (λ (k : Mem). record { answer = d .answer; carried = 0; after = record { mem = k; loaded = false; phase = Poly; table = b } }) (refused-left ne)
+        ∙ sym (site-refused s (store v t m) b f (d .answer) (sym same-answer) ne)))
 
-    pub set-up-done : (b₁ : List ℕ) → told w b₁ ≡ begunOf d b → done w v₁ t₁ m₁ b₁ ≡ setUpSite s (store v t m) b
+    pub set-up-done : (b₁ : List ℕ) → told w b₁ ≡ begunOf d f b → done w v₁ t₁ m₁ b₁ ≡ setUpSite s f (store v t m) b
     set-up-done b₁ e = ap {B = Done} (λ (k : Told). done (k .answered) v₁ t₁ m₁ (k .room)) e ∙ by-set-up
 
 -- the parts by value
-module _ (d : Stepped) (b : List ℕ) (k : Outstation) (q : k ≡ blankOutstation) (o : Outstation) (p : o ≡ record { recorder = d .recorder; loaded = k .loaded }) (w : Answered) where
-  pub begun-refused : (d .answer ≡ 0 → ⊥) → w ≡ answered o (d .answer) → told w b ≡ begunOf d b
+module _ (d : Stepped) (f : Phase) (b : List ℕ) (w : Answered) where
+  pub begun-refused : (k : Outstation) → k ≡ blankOutstation → (o : Outstation) → o ≡ record { recorder = d .recorder; loaded = k .loaded; phase = k .phase }
+      → (d .answer ≡ 0 → ⊥) → w ≡ answered o (d .answer) → told w b ≡ begunOf d f b
   unfolding begunOf
-  begun-refused ne u = rw (ne-eqb (d .answer) 0 ne, u, p, q)
+  begun-refused k q o p ne u = rw (ne-eqb (d .answer) 0 ne, u, p, q)
 
-  pub begun-done : d .answer ≡ 0 → (b₁ : List ℕ) → b₁ ≡ replicate tableSize 0 → w ≡ answered o 0 → told w b₁ ≡ begunOf d b
+  pub begun-done : d .answer ≡ 0 → (b₁ : List ℕ) → b₁ ≡ replicate tableSize 0 → w ≡ answered (record { recorder = d .recorder; loaded = false; phase = f }) 0 → told w b₁ ≡ begunOf d f b
   unfolding begunOf
-  begun-done z b₁ c u = rw (eq-eqb (d .answer) 0 z, u, p, q, c, z)
+  begun-done z b₁ c u = rw (eq-eqb (d .answer) 0 z, u, c, z)

@@ -1,5 +1,5 @@
 -- An Adjust of an outstation (docs/TARIFF.md, "In the outstation"): the answer is the recorder's, and with a table loaded the rate is the table's at the new time, ahead and back.
-use Prim.Native.Nat.{ℕ}
+use Prim.Native.Nat.{ℕ, _≤_}
 use mathlib.Core.Path.{_≡_}
 use lib.ListN.{length}
 use Rattle.registers.specs.declared.Shift.{Shift}
@@ -9,7 +9,7 @@ use Rattle.recorder.specs.Recorder.{with}
 use Rattle.recorder.specs.Effect.{rateIs}
 use Rattle.recorder.specs.Step as recorder
 use Rattle.tariff.specs.Table.{tableSize}
-use Rattle.outstation.specs.Outstation.{Site, withMem, of, rateThen, happens}
+use Rattle.outstation.specs.Outstation.{Site, mostRate, withMem, of, rateThen, happens}
 
 module _ (x : Site) (h : Shift) where
   -- what the recorder's step leaves: Ends (recorder, Adjusted) says it for every number of seconds
@@ -26,8 +26,8 @@ module _ (x : Site) (h : Shift) where
         ≡ record {
           answer = 0;
           carried = 0;
-          after = withMem x (with (stepped .after) (rateIs (rateThen (x .loaded) (x .table) newTime (x .mem .recorder .energy .rate)) (stepped .after .recorder)));
+          after = withMem x (with (stepped .after) (rateIs (rateThen (x .loaded) (x .phase) (x .table) newTime (x .mem .recorder .energy .rate)) (stepped .after .recorder)));
         }
 
 abbrev pub SiteAdjusts : Type 0
-SiteAdjusts = (x : Site) (h : Shift) → length (x .table) ≡ tableSize → Adjusts x h
+SiteAdjusts = (x : Site) (h : Shift) → length (x .table) ≡ tableSize → x .mem .recorder .energy .rate ≤ mostRate (x .phase) → Adjusts x h

@@ -54,7 +54,7 @@ const LEAST_WEIGHT: u64 = 1;
 
 const MOST_WEIGHT: u64 = 100000;
 
-const RATES: u32 = 8;
+pub const RATES: u32 = 8;
 
 const COUNT_ROUND: u32 = 100;
 

@@ -10,13 +10,22 @@ use memory::Values;
 use script::Said;
 use script::names;
 
-// How many numbers are behind the class, the last of them whether a table is loaded.
+// How many numbers are behind the class, the last of them whether a table is loaded; the phases are behind those.
 const BEHIND: usize = station::LOADED + 1 - rows::WEIGHT;
+
+fn phases(row: &Row) -> u64 {
+    if memory::number(row, station::SINGLE) == 1 {
+        1
+    } else {
+        3
+    }
+}
 
 // The outstation's row but for its letters.
 fn recorder(row: &Row) -> bool {
     printed::number(memory::number(row, rows::CLASS));
     printed::then_all(parts::part64(row, rows::WEIGHT, BEHIND));
+    printed::then(phases(row));
     printed::end()
 }
 

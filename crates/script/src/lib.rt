@@ -31,6 +31,7 @@ pub struct Said {
     pub c: u64,
     pub d: u64,
     pub e: u64,
+    pub f: u64,
 }
 
 const SPACE: u8 = 32;

@@ -24,6 +24,8 @@ pub const PPP: u64 = 0x707070;
 
 pub const ADJUST: u64 = 0x61646a757374;
 
+pub const SINGLE: u64 = 0x73696e676c65;
+
 pub const READ: u64 = 0x72656164;
 
 pub const DAY: u64 = 0x646179;

@@ -5,30 +5,46 @@ ghost use Rattle.store.specs.Store.{store};
 ghost use Rattle.desk.specs.Given.{given};
 ghost use Rattle.laws.specs.Bits.{bit};
 ghost use Rattle.outstation.specs.Outstation.{happening};
-ghost use Rattle.station.specs.Station.{left, loadedIn, outstationIn, putLoaded, putOutstation, setUpIn, happensIn, readIn, writeIn};
+ghost use Rattle.station.specs.Station.{left, tellsIn, phaseIn, outstationIn, putTells, isSingle, putOutstation, setUpIn, happensIn, readIn, writeIn};
 use outstation::Happening;
 use outstation::Outstation;
+use outstation::Phase;
 
-// Behind the recorder's numbers: 1 where a switching table is loaded.
+// Behind the recorder's numbers: 1 where a switching table is loaded, and 1 where it is single phase.
 pub const LOADED: usize = rows::NUMBERS;
 
-fn is_loaded(row: &[u64]) -> bool
-    ensures { λ r. ⌜ r ≡ loadedIn (now (row .entry)) ⌝ }
+pub const SINGLE: usize = LOADED + 1;
+
+// Whether a number says so.
+fn tells(row: &[u64], at: usize) -> bool
+    ensures { λ r. ⌜ r ≡ tellsIn (now (row .entry)) at ⌝ }
 {
-    if LOADED < row.len() {
-        return row[LOADED] == 1;
+    if at < row.len() {
+        return row[at] == 1;
     }
     false
+}
+
+fn phase(row: &[u64]) -> Phase
+    ensures { λ r. ⌜ r ≡ phaseIn (now (row .entry)) ⌝ }
+{
+    if tells(row, SINGLE) {
+        Phase::Single
+    } else {
+        Phase::Poly
+    }
 }
 
 fn outstation(row: &[u64]) -> Outstation
     ensures { λ r. ⌜ r ≡ outstationIn (now (row .entry)) ⌝ }
 {
-    let loaded = is_loaded(row);
+    let loaded = tells(row, LOADED);
+    let phase = phase(row);
     let r = rows::recorder(row);
     Outstation {
         recorder: r,
         loaded: loaded,
+        phase: phase,
     }
 }
 
@@ -38,11 +54,20 @@ fn one_if(b: bool) -> u64
     if b { 1 } else { 0 }
 }
 
-fn put_loaded(row: &mut [u64], loaded: bool)
-    ensures { λ _. ⌜ now (row .exit) ≡ putLoaded (now (row .entry)) loaded ⌝ }
+fn put_tells(row: &mut [u64], at: usize, so: bool)
+    ensures { λ _. ⌜ now (row .exit) ≡ putTells (now (row .entry)) at so ⌝ }
 {
-    if LOADED < row.len() {
-        row[LOADED] = one_if(loaded);
+    if at < row.len() {
+        row[at] = one_if(so);
+    }
+}
+
+fn is_single(phase: Phase) -> bool
+    ensures { λ r. ⌜ r ≡ isSingle phase ⌝ }
+{
+    match phase {
+        Phase::Single => true,
+        Phase::Poly => false,
     }
 }
 
@@ -51,7 +76,9 @@ fn put_outstation(row: &mut [u64], o: Outstation)
 {
     let r = o.recorder;
     rows::put_recorder(row, r);
-    put_loaded(row, o.loaded);
+    put_tells(row, LOADED, o.loaded);
+    let phase = o.phase;
+    put_tells(row, SINGLE, is_single(phase));
 }
 
 // The numbers of a row are what the recorder is set up with.
@@ -69,9 +96,11 @@ pub fn set_up(
     let identity = r.identity;
     let id = identity.identifier;
     let class = identity.class;
+    let phase = phase(row);
     let done = Outstation::set_up(
         id,
         class,
+        phase,
         identity.weight,
         r.clock.time,
         r.energy.total,
@@ -86,7 +115,7 @@ pub fn set_up(
     desk::one_number(done.answer, done.carried)
 }
 
-// An event, or a load of the table that is offered.
+// An event, a load of the table that is offered, or that it becomes single phase.
 pub fn happens(
     row: &mut [u64],
     what: Happening,

@@ -16,7 +16,7 @@ use Rattle.calendar.specs.Calendar.{dayOf}
 use Rattle.calendar.specs.Digits.{isDay}
 use Rattle.tariff.specs.declared.Today.{Today}
 use Rattle.tariff.specs.Table.{Entry, secondsOfMinute, tableSize, slotsOf, minuteOf, anyOf, time, exception, weekdays, default}
-use Rattle.tariff.specs.Judge.{everyYear, leapYear, yearOf, dateOk, uses, opens, served, clash, clashIn, sound, judged}
+use Rattle.tariff.specs.Judge.{everyYear, leapYear, yearOf, dateOk, uses, opens, served, clash, clashIn, above, namesAbove, sound, judged}
 use Rattle.tariff.specs.declared.Ruler.{Ruler}
 use Rattle.tariff.specs.declared.Force.{Force}
 use Rattle.tariff.specs.Scans.{rulerOf, outranked, forceOf, followed}
@@ -139,6 +139,15 @@ module _ (l : List ℕ) where
       pub judge-good : c ≡ false → 0 ≡ judged l
       unfolding judged
       judge-good g = rw (eq-eqb (length l) tableSize long, ← p, not-false b h, ← q, g)
+
+  module _ (n : ℕ) where
+    pub above-short : (length l ≡ tableSize → ⊥) → false ≡ namesAbove n l
+    unfolding namesAbove
+    above-short h = rw (ne-eqb (length l) tableSize h)
+
+    pub above-done : length l ≡ tableSize → (b : Bool) → b ≡ anyOf (above n) (slotsOf l) → b ≡ namesAbove n l
+    unfolding namesAbove
+    above-done h b p = rw (eq-eqb (length l) tableSize h, p)
 
   module _ (t : ℕ) where
     pub rate-short : (length l ≡ tableSize → ⊥) → 0 ≡ rateAt l t

@@ -1,19 +1,22 @@
 -- The two theorems: an accepted table says exactly one rate at each second, and any saved order of it is accepted and says the same.
 -- Assumes nothing.
-use Prim.Native.Nat.{ℕ, _<_}
+use Prim.Native.Nat.{ℕ, _<_, _≤_}
 use mathlib.Core.Path.{_≡_, refl, sym, ap, _∙_}
-use mathlib.Core.Bool.{true, false, cond}
+use mathlib.Core.Bool.{true, false, cond, _&&_, false≢true}
 use mathlib.Core.List.{List, List·Permᴰ, Permᴰ·symm}
-use lib.Dec.{eqb, ltb}
+use lib.Dec.{eqb, ltb, leb}
 use lib.ListN.{length}
-use borrow.Author.Tests.{eqb-true, eq-eqb, lt-ltb, not-false}
+use borrow.Author.Tests.{eqb-true, eq-eqb, lt-ltb, le-leb, ltb-false, not-false}
 use Rattle.calendar.specs.Clock.{timesInAll}
+use Rattle.registers.specs.Energy.{rateCount, rateOk}
+use Rattle.laws.proofs.Bools.{and-left, both-of}
 use Rattle.laws.proofs.Checks.{none-fails}
-use Rattle.tariff.specs.Table.{Entry, tableSize, slotsOf, isTime, isException, isDefault}
-use Rattle.tariff.specs.Judge.{entryOk, opens, served, clashIn, sound, tableChecks, judged}
-use Rattle.tariff.specs.Rate.{rateIn, rateAt}
+use Rattle.laws.proofs.Split.{by-test}
+use Rattle.tariff.specs.Table.{Entry, tableSize, slotsOf, isTime, isException, isDefault, minuteOf, anyOf}
+use Rattle.tariff.specs.Judge.{entryOk, opens, served, clashIn, above, namesAbove, sound, tableChecks, judged}
+use Rattle.tariff.specs.Rate.{minuteAt, applies, rateIn, rateAt}
 use Rattle.tariff.specs.Saved.{Says, ExactlyOne, AnyOrder}
-use Rattle.tariff.proofs.Lists.{all-same, perm-any, perm-all, perm-count, perm-in}
+use Rattle.tariff.proofs.Lists.{any-in, all-same, perm-any, perm-all, perm-count, perm-in}
 use Rattle.tariff.proofs.Clashing.{perm-clash}
 use Rattle.tariff.proofs.One as one
 
@@ -46,6 +49,25 @@ exactly-one l h t u =
       least = rw same (one.in-range (slotsOf l) (a .sound) (a .free) t .0);
       most = rw same (one.in-range (slotsOf l) (a .sound) (a .free) t .1);
     }
+
+-- ---- no rate above those that it names
+
+not-above : (n daytype minute : ℕ) (e : Entry) → applies daytype minute e ≡ true → rateOk (e .z) ≡ true → above n e ≡ false → e .z ≤ n
+unfolding applies
+not-above n daytype minute e d r h =
+    ltb-false n (e .z) (rw (and-left (isTime e) (eqb (e .daytype) daytype) (and-left (isTime e && eqb (e .daytype) daytype) (leb (minuteOf e) minute) d), r) at h)
+
+pub none-above : (n : ℕ) (l : List ℕ) → judged l ≡ 0 → namesAbove n l ≡ false → (t : ℕ) → t < timesInAll → rateAt l t ≤ n
+unfolding namesAbove
+none-above n l h b t u =
+    let a = accepted l h in
+    let o = exactly-one l h t u in
+    let y = o .one in
+    let none : anyOf (above n) (slotsOf l) ≡ false = rw (eq-eqb (length l) tableSize (a .long)) at b in
+    let ok : rateOk (rateAt l t) ≡ true = both-of (leb 1 (rateAt l t)) (leb (rateAt l t) rateCount) (le-leb 1 (rateAt l t) (o .least)) (le-leb (rateAt l t) rateCount (o .most)) in
+    rw (y .rate)
+    (not-above n (y .ruler .daytype) (minuteAt t) (y .switch) (y .force .due) (rw (y .rate) at ok)
+    (by-test (above n (y .switch)) (λ z. absurd (false≢true (sym none ∙ any-in (above n) (slotsOf l) (y .switch) (y .force .stands) z))) (λ z. z)))
 
 -- ---- any order
 

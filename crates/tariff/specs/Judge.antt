@@ -86,6 +86,16 @@ unfoldable pub clashIn : List Entry → Bool
 clashIn [] = false
 clashIn (e ∷ es) = clashIn es || anyOf (clash e) es
 
+-- ---- a rate that can't be chosen
+
+-- a switching time that names a rate, and one above n
+abbrev pub above : ℕ → Entry → Bool
+above n e = isTime e && rateOk (e .z) && ltb n (e .z)
+
+-- some switching time, also of a day type that is not used, names a rate above n; none does where there is no table
+unfoldable pub namesAbove : ℕ → List ℕ → Bool
+namesAbove n l = eqb (length l) tableSize && anyOf (above n) (slotsOf l)
+
 -- ---- the answer
 
 unfoldable pub sound : List Entry → Bool

@@ -4,4 +4,3 @@ pub mod Judge
 pub mod Rate
 pub mod Scans
 pub mod Saved
-pub mod Cases

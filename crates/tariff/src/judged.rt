@@ -4,7 +4,7 @@ ghost use Prim.Native.Nat.{_≤_};
 ghost use lib.ListN.{length};
 ghost use Rattle.laws.specs.Bits.{bit};
 ghost use Rattle.tariff.specs.Table.{tableSize, slotCount, slotsTo, slotsOf, isTime, isException, isDefault, anyOf, allOf, countOf};
-ghost use Rattle.tariff.specs.Judge.{entryOk, opens, served, clash, clashIn, sound};
+ghost use Rattle.tariff.specs.Judge.{entryOk, opens, served, clash, clashIn, above, sound};
 use crate::DEFAULT;
 use crate::EXCEPTION;
 use crate::Entry;
@@ -12,6 +12,7 @@ use crate::MOST_EXCEPTIONS;
 use crate::MOST_TIMES;
 use crate::SLOTS;
 use crate::WEEKDAYS;
+use crate::above;
 use crate::clash;
 use crate::entry_ok;
 use crate::is_default;
@@ -145,6 +146,20 @@ pub fn any_clash(l: &[u8]) -> bool
     while i < SLOTS {
         let e = slot(l, i);
         found = found | clashes(l, e, i);
+        i += 1;
+    }
+    found
+}
+
+pub fn any_above(l: &[u8], n: u32) -> bool
+    requires { ⌜ length (now l) ≡ tableSize ⌝ }
+    ensures { λ r. ⌜ r ≡ anyOf (above n) (slotsOf (now (l .entry))) ⌝ }
+{
+    let mut found = false;
+    let mut i: usize = 0;
+    while i < SLOTS {
+        let e = slot(l, i);
+        found = found | above(n, e);
         i += 1;
     }
     found

@@ -5,7 +5,7 @@ ghost use Prim.Native.Nat.{_<_, _≤_};
 ghost use lib.ListN.{length};
 ghost use Rattle.calendar.specs.Calendar.{daysInAll};
 ghost use Rattle.tariff.specs.Table.{daysOfWeek, tableSize, slotCount, slotAt, slotsOf, isTime, isException, isDefault, minuteOf};
-ghost use Rattle.tariff.specs.Judge.{yearOf, dateOk, timeOk, entryOk, opens, sameTime, clash, judged};
+ghost use Rattle.tariff.specs.Judge.{yearOf, dateOk, timeOk, entryOk, opens, sameTime, clash, above, namesAbove, judged};
 ghost use Rattle.tariff.specs.Rate.{weekdayOf, todayOf, dayType, covers, ruled, applies, markOf, latest, rateAt};
 ghost use Rattle.tariff.specs.Scans.{rulerOf, outranked, forceOf, followed};
 
@@ -158,6 +158,12 @@ fn opens(daytype: u8, e: Entry) -> bool
     (e.kind == TIME) & (e.daytype == daytype) & (minute(e) == 0)
 }
 
+fn above(n: u32, e: Entry) -> bool
+    ensures { λ r. ⌜ r ≡ above n e ⌝ }
+{
+    (e.kind == TIME) & registers::rate_ok(e.z as u32) & (n < e.z as u32)
+}
+
 fn same_time(a: Entry, b: Entry) -> bool
     ensures { λ r. ⌜ r ≡ sameTime a b ⌝ }
 {
@@ -218,6 +224,16 @@ pub fn judge(l: &[u8]) -> u32
         return answers::CLASH;
     }
     answers::DONE
+}
+
+// Whether some switching time names a rate above n.
+pub fn names_above(l: &[u8], n: u32) -> bool
+    ensures { λ r. ⌜ r ≡ namesAbove n (now (l .entry)) ⌝ }
+{
+    if l.len() != TABLE {
+        return false;
+    }
+    judged::any_above(l, n)
 }
 
 // ---- the rate

@@ -11,13 +11,14 @@ use Rattle.store.specs.Store.{Store}
 use Rattle.outstation.specs.declared.Happening.{Happening}
 use Rattle.outstation.specs.declared.Happening.the-variants.{Load}
 use Rattle.outstation.specs.declared.Answered.{Answered}
+use Rattle.outstation.specs.declared.Phase.the-variants.{Poly}
 use Rattle.outstation.specs.Outstation.{Site, site, Done, done, happening, happens}
 use Rattle.outstation.specs.SetUp.{setUpSite}
 use Rattle.timed.specs.declared.Course.{Course}
 use Rattle.timing.specs.Timed.{meter}
 use Rattle.timed.specs.Timed.{begun, later, nth, coming, played, totalOf, timeOf, rateOf}
 
-pub set-up-after : (d : Answered) (v s m b : List ℕ) (x : Store) (c : List ℕ) → done d v s m b ≡ setUpSite meter x c → site (d .outstation) v s m b ≡ begun x c
+pub set-up-after : (d : Answered) (v s m b : List ℕ) (x : Store) (c : List ℕ) → done d v s m b ≡ setUpSite meter Poly x c → site (d .outstation) v s m b ≡ begun x c
 unfolding begun
 set-up-after d v s m b x c e = ap (λ (y : Done). y .after) e
 

@@ -8,6 +8,7 @@ use Rattle.store.specs.Store.{Store}
 use Rattle.recorder.specs.declared.Event.the-variants.{Count, Clock}
 use Rattle.outstation.specs.declared.Happening.{Happening}
 use Rattle.outstation.specs.declared.Happening.the-variants.{Of, Load}
+use Rattle.outstation.specs.declared.Phase.the-variants.{Poly}
 use Rattle.outstation.specs.Outstation.{Site, happening, happens}
 use Rattle.outstation.specs.SetUp.{setUpSite}
 use Rattle.timing.specs.Timed.{meter}
@@ -15,7 +16,7 @@ use Rattle.timed.specs.declared.Course.{Course}
 use Rattle.timed.specs.declared.Course.the-variants.{Counts, Clocks, Loads}
 
 unfoldable pub begun : Store → List ℕ → Site
-begun x b = setUpSite meter x b .after
+begun x b = setUpSite meter Poly x b .after
 
 -- the i-th: the counter goes on by one pulse each time, or the time by so many seconds; the first is the load
 abbrev pub later : Course → ℕ → Happening

@@ -9,6 +9,7 @@ ghost use Rattle.timed.specs.declared.Course.the-variants.{Counts, Clock
 ghost use Rattle.timed.specs.Timed.{begun, later, nth, coming, played, told, totalOf, timeOf, rateOf};
 use outstation::Happening;
 use outstation::Outstation;
+use outstation::Phase;
 use quantity::MilliwattHours;
 use recorder::Event;
 use store::Class;
@@ -48,6 +49,7 @@ fn begun(values: &mut [u16], starts: &mut [u32], marks: &mut [u64], table: &mut 
     let s = Outstation::set_up(
         timing::METER,
         Class::D,
+        Phase::Poly,
         MilliwattHours(timing::PULSE),
         0,
         MilliwattHours(0),

@@ -6,8 +6,8 @@ use Rattle.outstation.proofs.rate_then.Tie as tie
 rate-at-requires : tie.Need-rate-at-requires
 rate-at-requires c κs = search needs
 
-rate-ok-requires : tie.Need-rate-ok-requires
-rate-ok-requires c κs = search needs
+may-choose-requires : tie.Need-may-choose-requires
+may-choose-requires c κs = search needs
 
 returns : tie.Need-returns
 returns c = search then-kept
@@ -16,4 +16,4 @@ returns-2 : tie.Need-returns-2
 returns-2 c = search then-set
 
 pub rate-then-spec : {M : Type 1} → statement M
-rate-then-spec = tie.close (tie.spec rate-at-requires rate-ok-requires returns returns-2)
+rate-then-spec = tie.close (tie.spec rate-at-requires may-choose-requires returns returns-2)

@@ -6,6 +6,9 @@ use Rattle.station.proofs.set_up.Tie as tie
 recorder-requires : tie.Need-recorder-requires
 recorder-requires c κs = search needs
 
+phase-requires : tie.Need-phase-requires
+phase-requires c κs = search needs
+
 set-up-requires : tie.Need-set-up-requires
 set-up-requires c κs = search needs
 
@@ -38,6 +41,7 @@ set-up-spec =
     tie.close
     (tie.spec
     recorder-requires
+    phase-requires
     set-up-requires
     put-outstation-requires
     one-number-requires

@@ -13,7 +13,7 @@ answered-requires : tie.Need-answered-requires
 answered-requires c κs = search needs
 
 returns : tie.Need-returns
-returns c = begun-refused _ _ _ (c .before .before .before .before .blank .ensures) _ (c .before .before .before .with-recorder .ensures) _ (c .before .if1 .taken) (c .answered .ensures)
+returns c = search begun-refused
 
 clear-requires : tie.Need-clear-requires
 clear-requires c κs = search needs
@@ -25,7 +25,7 @@ same-length : tie.Need-same-length
 same-length c = search needs
 
 returns-2 : tie.Need-returns-2
-returns-2 c = begun-done _ _ _ (c .before .before .before .before .before .before .before .before .blank .ensures) _ (c .before .before .before .before .before .before .before .with-recorder .ensures) _ (c .before .before .before .before .before .if1 .left) _ (c .before .before .before .clear .ensures) (c .answered2 .ensures)
+returns-2 c = search begun-done
 
 pub begun-spec : {M : Type 1} → statement M
 begun-spec =

@@ -7,7 +7,7 @@ no-room-requires : tie.Need-no-room-requires
 no-room-requires c κs = search needs
 
 returns : tie.Need-returns
-returns c = set-up-no-room _ _ _ _ _ _ (c .before .if1 .taken) (c .no-room .ensures)
+returns c = set-up-no-room _ _ _ _ _ _ _ (c .before .if1 .taken) (c .no-room .ensures)
 
 set-up-requires : tie.Need-set-up-requires
 set-up-requires c κs = search needs
@@ -28,7 +28,7 @@ same-length-4 : tie.Need-same-length-4
 same-length-4 c = search needs
 
 returns-2 : tie.Need-returns-2
-returns-2 c = set-up-done _ _ _ _ _ _ (c .before .before .before .before .before .before .before .before .before .before .before .before .before .before .if1 .left) _ _ _ _ (c .before .before .before .before .before .before .before .before .before .before .set-up .ensures) _ (c .before .before .begun .ensures)
+returns-2 c = set-up-done _ _ _ _ _ _ _ (c .before .before .before .before .before .before .before .before .before .before .before .before .before .before .if1 .left) _ _ _ _ (c .before .before .before .before .before .before .before .before .before .before .set-up .ensures) _ (c .before .before .begun .ensures)
 
 pub set-up-spec : {M : Type 1} → statement M
 set-up-spec =

@@ -1,0 +1,2 @@
+-- Worked: the rows, computed.
+pub mod Worked
