@@ -4,6 +4,7 @@
 mod adjusting;
 mod limits;
 mod names;
+mod phases;
 mod sides;
 mod switching;
 mod tables;
@@ -19,6 +20,7 @@ use crate::script::{self, Player};
 use adjusting::Adjusting;
 use limits::Limits;
 use names::Names;
+use phases::Phases;
 use std::collections::{BTreeMap, BTreeSet};
 use switching::Switching;
 use tables::Tables;
@@ -34,7 +36,7 @@ const ASKED_DAY: &[u32] = &[DONE, WRONG_LENGTH, DAMAGED, OUT_OF_RANGE];
 
 /// Each call and the answer numbers that the rules allow it. Opening is always lent the right
 /// length by a script, so its refusal of a wrong one can't be reached there.
-const ALLOWED: [(&str, &[u32]); 24] = [
+const ALLOWED: [(&str, &[u32]); 25] = [
     ("setup", &[DONE, WRONG_LENGTH, OUT_OF_RANGE]),
     ("count", &[DONE, WRONG_POWER, TOO_MANY_UNITS, WRONG_LENGTH, DAMAGED]),
     ("clock", TIMED),
@@ -48,6 +50,7 @@ const ALLOWED: [(&str, &[u32]); 24] = [
     ("ppp", RANGED),
     ("adjust", &[DONE, WRONG_POWER, WRONG_TIME, WRONG_LENGTH, DAMAGED, OUT_OF_RANGE, HALF_HOUR_ENDED]),
     ("load", &[DONE, WRONG_POWER, WRONG_LENGTH, DAMAGED, OUT_OF_RANGE, TABLE_CLASH]),
+    ("single", RANGED),
     ("read", &[DONE, WRONG_POWER, WRONG_LENGTH, DAMAGED, OUT_OF_RANGE, OUTPUT_SHORT]),
     ("write", &[DONE, DAMAGED, OUTPUT_SHORT]),
     ("check", READER),
@@ -154,6 +157,7 @@ struct Passed {
     tables: Tables,
     switching: Switching,
     adjusting: Adjusting,
+    phases: Phases,
 }
 
 impl Passed {
@@ -170,6 +174,7 @@ impl Passed {
             self.tables.add(line, &answer, &player);
             self.switching.add(&before, line, &answer, &mut player);
             self.adjusting.add(&before, line, &answer, &mut player);
+            self.phases.add(&before, line, &answer, &mut player);
             let word = line.split(|&byte| byte == b' ').next().unwrap_or_default();
             if word == b"count" {
                 self.add_count(&before, line, &answer);
@@ -220,7 +225,8 @@ impl Passed {
         let tables = self.tables.told();
         let switching = self.switching.told();
         let adjusting = self.adjusting.told();
-        let told = limits && names && tables && switching && adjusting;
+        let phases = self.phases.told();
+        let told = limits && names && tables && switching && adjusting && phases;
         over == all && read == calendar::DAYS && filled == weights && told
     }
 }

@@ -16,11 +16,14 @@ mod longest;
 mod names;
 mod ordinary;
 mod outages;
+mod phases;
+mod round;
 mod tables;
 mod weights;
 mod writer;
 
 pub use characters::EDGES;
+pub use round::round;
 #[cfg(test)]
 pub use tables::random_entries;
 pub use weights::WEIGHTS;
@@ -32,7 +35,7 @@ use crate::quantities::{
     LEAST_WEIGHT, MOST_UNITS, MOST_WEIGHT, THOUSANDTHS_PER_UNIT, THOUSANDTHS_PER_WATT_HOUR, TOTAL_MODULUS,
 };
 use crate::random::Random;
-use crate::recorder::{Class, Recorder, StoreLength, MOST_SHIFT};
+use crate::recorder::{Class, Phase, Recorder, StoreLength, MOST_SHIFT};
 use crate::script::{Player, MOST_SCRIPT_BYTES};
 
 /// The example's identifier, and another meter's.
@@ -60,100 +63,6 @@ const MOST_32_BITS: u64 = u32::MAX as u64;
 pub struct Script {
     pub name: String,
     pub text: Vec<u8>,
-}
-
-type Generator = fn(u64) -> Script;
-
-/// The kinds of a round, each with the number of scripts of that kind.
-const KINDS: [(Generator, u64); 75] = [
-    (ordinary::weeks, 16),
-    (ordinary::year, 1),
-    (ordinary::ledgers, 3),
-    (boundaries::instants, 1),
-    (boundaries::units, 1),
-    (boundaries::run_rounds, 1),
-    (boundaries::rings, 1),
-    (ends::calendar, 1),
-    (boundaries::starts, 1),
-    (hostile::set_ups, 1),
-    (hostile::pokes, 2),
-    (hostile::stores, 2),
-    (calls::calls, 4),
-    (writer::given, 2),
-    (damage::blocks, 2),
-    (damage::sizes, 1),
-    (damage::ledgers, 1),
-    (conflicts::conflicts, 2),
-    (lines::garbled, 2),
-    (|seed| outages::long(seed, Class::A), 1),
-    (|seed| outages::long(seed, Class::B), 1),
-    (|seed| outages::long(seed, Class::C), 1),
-    (|seed| outages::long(seed, Class::D), 1),
-    (dates::of_reading, 1),
-    (dates::words, 1),
-    (dates::of_records, 1),
-    (dates::of_resets, 1),
-    (weights::crossed, 1),
-    (weights::remainders, 1),
-    (weights::limits, 1),
-    (|seed| complete::days(seed, Class::A), 1),
-    (|seed| complete::days(seed, Class::B), 1),
-    (|seed| complete::days(seed, Class::C), 1),
-    (|seed| complete::days(seed, Class::D), 1),
-    (longest::longest, 1),
-    (characters::set_ups, 1),
-    (characters::openings, 1),
-    (characters::recorders, 1),
-    (characters::blocks, 1),
-    (characters::ledgers, 1),
-    (characters::events, 1),
-    (names::runs, 2),
-    (names::meters, 1),
-    (names::refusals, 1),
-    (names::marks, 1),
-    (adjustments::distances::boundaries, 1),
-    (adjustments::distances::midnights, 1),
-    (adjustments::distances::set_ups, 1),
-    (adjustments::distances::first, 1),
-    (adjustments::distances::last, 1),
-    (adjustments::marks, 1),
-    (adjustments::runs, 2),
-    (adjustments::moved_back, 1),
-    (adjustments::numbers::states, 1),
-    (adjustments::numbers::forms, 1),
-    (tables::switching::weeks, 4),
-    (tables::switching::calendar, 1),
-    (tables::switching::dates, 1),
-    (tables::switching::ranks, 1),
-    (tables::switching::orders, 1),
-    (tables::limits::bytes, 1),
-    (tables::limits::days, 1),
-    (tables::limits::numbers, 1),
-    (tables::limits::midnights, 1),
-    (tables::refused::clashes, 1),
-    (tables::refused::faults, 1),
-    (tables::refused::states, 1),
-    (tables::damaged::pokes, 1),
-    (tables::damaged::junk, 1),
-    (tables::damaged::lengths, 1),
-    (tables::adjusted::minutes, 1),
-    (tables::drawn::weeks, 1),
-    (tables::drawn::half_hours, 1),
-    (tables::lines::garbled, 1),
-    (tables::mixed::anything, 3),
-];
-
-/// All scripts of one round.
-pub fn round(seed: u64) -> Vec<Script> {
-    let mut seeds = Random::new(seed);
-    let mut scripts = Vec::new();
-    for (generate, times) in KINDS {
-        for _ in 0..times {
-            scripts.push(generate(seeds.bits()));
-        }
-    }
-    scripts.extend(lines::longest());
-    scripts
 }
 
 /// A life being written.
@@ -217,9 +126,19 @@ impl Life {
         }
     }
 
+    /// On polyphase, where every rate can be chosen.
     fn set_up(&mut self, class: Class, weight: u64, time: u64, total: u64, counter: u32) -> String {
-        let time = self.time_words(time);
-        self.say(format!("setup {IDENTIFIER} {} {weight} {time} {total} {counter}", letter(class)))
+        self.set_up_as(Phase::Poly, class, weight, time, total, counter)
+    }
+
+    fn set_up_as(&mut self, phase: Phase, class: Class, weight: u64, time: u64, total: u64, counter: u32) -> String {
+        let (class, phase, time) = (letter(class), phase_letter(phase), self.time_words(time));
+        self.say(format!("setup {IDENTIFIER} {class} {phase} {weight} {time} {total} {counter}"))
+    }
+
+    /// Mostly polyphase.
+    fn random_phase(&mut self) -> Phase {
+        *self.random.pick(&[Phase::Poly, Phase::Poly, Phase::Single])
     }
 
     fn random_ppp(&mut self) -> String {
@@ -337,6 +256,13 @@ fn letter(class: Class) -> &'static str {
     }
 }
 
+pub fn phase_letter(phase: Phase) -> &'static str {
+    match phase {
+        Phase::Single => "s",
+        Phase::Poly => "p",
+    }
+}
+
 /// A write into an output of so many bytes.
 fn write_into(room: usize) -> String {
     format!("write {room}")
@@ -347,8 +273,9 @@ fn with_ppp(ppp: &str) -> String {
     format!("{ppp}{}", &IDENTIFIER[PPP_LENGTH..])
 }
 
-/// The events at their plainest, at a present time; the load last, since Rate is refused after it.
-fn plain_events(time: u64, last: u32) -> [String; 12] {
+/// The events at their plainest, at a present time; the load and the conversion to single phase last, since Rate is
+/// refused after the one and some rates after the other.
+fn plain_events(time: u64, last: u32) -> [String; 13] {
     [
         format!("count {last}"),
         format!("clock @{time}"),
@@ -362,5 +289,6 @@ fn plain_events(time: u64, last: u32) -> [String; 12] {
         "ppp Z9z".to_string(),
         "adjust 0".to_string(),
         "load".to_string(),
+        "single".to_string(),
     ]
 }

@@ -14,7 +14,7 @@ use crate::block::{self, Day, Fields, Header};
 use crate::identifier::Identifier;
 use crate::ledger;
 use crate::listing;
-use crate::recorder::{self, Class, Event, Recorder, SetUp, Store, StoreLength, BLANK};
+use crate::recorder::{self, Class, Event, Phase, Recorder, SetUp, Store, StoreLength, BLANK};
 use crate::tariff::TABLE_BYTES;
 
 /// Of a longer script nothing is played.
@@ -208,12 +208,13 @@ impl Player {
     }
 
     fn set_up(&mut self, words: &[Word]) -> Option<String> {
-        let [id, letter, weight, rest @ ..] = words else { return None };
+        let [id, class_letter, phase_letter, weight, rest @ ..] = words else { return None };
         let (time, rest) = time(rest)?;
         let [total, counter] = rest else { return None };
         let given = SetUp {
             identifier: identifier(id)?,
-            class: class(letter)?,
+            class: class(class_letter)?,
+            phase: phase(phase_letter)?,
             weight: number_32_bits(weight)?,
             time,
             total: number(total)?,
@@ -293,6 +294,7 @@ impl Player {
             u64::from(r.reverse),
             u64::from(r.level2),
             u64::from(r.loaded),
+            phases(r.phase),
         ]);
         numbers.iter().map(u64::to_string).collect::<Vec<String>>().join(" ")
     }
@@ -323,5 +325,13 @@ impl Player {
         let length = if in_range { ledger::bytes_for(days as usize) } else { 0 };
         self.ledger = vec![0; length];
         print(ledger::open(identifier, first, days, &mut self.ledger))
+    }
+}
+
+/// How many phases `show` prints for a phase kind.
+pub fn phases(phase: Phase) -> u64 {
+    match phase {
+        Phase::Single => 1,
+        Phase::Poly => 3,
     }
 }

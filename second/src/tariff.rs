@@ -41,8 +41,14 @@ fn of_kind(table: &[u8], kind: u8) -> impl DoubleEndedIterator<Item = Slot> + '_
     slots(table).filter(move |slot| slot[0] == kind)
 }
 
-pub fn is_rate(number: u8) -> bool {
+fn is_rate(number: u8) -> bool {
     (1..=RATES as u8).contains(&number)
+}
+
+/// Whether a switching time has a rate above so many, also one of a day type that is not used; in a table that was
+/// accepted or not.
+pub fn names_rate_above(table: &[u8], most: u64) -> bool {
+    of_kind(table, TIME).any(|[_, _, _, _, rate]| is_rate(rate) && u64::from(rate) > most)
 }
 
 /// The minute of the day that an hour and a minute name, in range or not.

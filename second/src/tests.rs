@@ -3,11 +3,13 @@
 
 mod adjusting;
 mod complete;
+mod converted;
 mod deliveries;
 mod history;
 mod hold;
 mod names;
 mod order;
+mod phases;
 mod switching;
 mod tariff;
 mod weights;
@@ -18,13 +20,14 @@ use crate::calendar;
 use crate::identifier::{Identifier, Ppp};
 use crate::ledger;
 use crate::listing;
-use crate::recorder::{self, Class, Event, Recorder, SetUp, Store, StoreLength, BLANK};
+use crate::recorder::{self, Class, Event, Phase, Recorder, SetUp, Store, StoreLength, BLANK};
 use crate::script::{self, Player};
 use crate::tariff::TABLE_BYTES;
 
 const IDENTIFIER: Identifier = *b"ABCX24000017";
 
 /// A recorder beside memory for its store.
+#[derive(Clone, Debug, PartialEq)]
 struct Outstation {
     recorder: Recorder,
     values: Vec<u16>,
@@ -40,8 +43,14 @@ impl Outstation {
         (*recorder, Store { values, starts, marks, table })
     }
 
+    /// On polyphase.
     fn new(class: Class, weight: u64, time: &str, total: u64, counter: u32) -> Outstation {
-        let length = class.store_length();
+        let (phase, time) = (Phase::Poly, at(time));
+        Outstation::set_up(&SetUp { identifier: IDENTIFIER, class: Some(class), phase, weight, time, total, counter })
+    }
+
+    fn set_up(given: &SetUp) -> Outstation {
+        let length = given.class.unwrap().store_length();
         let mut outstation = Outstation {
             recorder: BLANK,
             values: vec![7; length.values],
@@ -49,8 +58,7 @@ impl Outstation {
             marks: vec![7; length.marks],
             table: vec![7; TABLE_BYTES],
         };
-        let given = SetUp { identifier: IDENTIFIER, class: Some(class), weight, time: at(time), total, counter };
-        let (recorder, answer) = recorder::set_up(&given, &mut outstation.lend().1);
+        let (recorder, answer) = recorder::set_up(given, &mut outstation.lend().1);
         assert_eq!(answer, Answer::done(0));
         outstation.recorder = recorder;
         outstation

@@ -14,8 +14,10 @@ use std::collections::BTreeSet;
 /// The calls that ask a table for its rate.
 const FOLLOWING: [&str; 5] = ["load", "clock", "on", "adjust", "rateat"];
 /// The calls that a room of another length refuses; a read does not look at it.
-const LENT: [&str; 13] =
-    ["setup", "count", "clock", "off", "on", "access", "meter", "reset", "rate", "reverse", "ppp", "adjust", "load"];
+const LENT: [&str; 14] = [
+    "setup", "count", "clock", "off", "on", "access", "meter", "reset", "rate", "reverse", "ppp", "adjust", "load",
+    "single",
+];
 
 const RATE_CHOSEN: &str = "rate chosen while a table is loaded";
 const RATE_KEPT: &str = "the active rate chosen while a table is loaded";

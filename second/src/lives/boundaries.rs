@@ -90,7 +90,7 @@ pub fn instants(seed: u64) -> Script {
     life.say_all(&["clock 240303 001000", "clock 240303 000959", "show"]);
     // The first two half-hours of the listing example, and its ledger in either order.
     life.say_all(&[
-        "setup ABCX24000017 a 10000 240229 000000 4711000000 0",
+        "setup ABCX24000017 a p 10000 240229 000000 4711000000 0",
         "count 50",
         "clock 240229 003000",
         "count 130",
@@ -158,7 +158,7 @@ pub fn units(seed: u64) -> Script {
             }
         }
     }
-    for line in ["setup ABCX24000017 a 10000 240229 110000 0 4294967290", "count 5", "show", "count 5", "show"] {
+    for line in ["setup ABCX24000017 a p 10000 240229 110000 0 4294967290", "count 5", "show", "count 5", "show"] {
         life.say(line);
     }
     for (total, weight, pulses) in [

@@ -144,7 +144,7 @@ fn outputs(life: &mut Life) {
 
 fn random_call(life: &mut Life) {
     let now = life.time();
-    let call = match life.random.below(22) {
+    let call = match life.random.below(23) {
         0 => "off".to_string(),
         1 | 2 => format!("on @{}", (now + life.random.below(9_000)).saturating_sub(life.random.below(4_000))),
         3 | 4 => format!("clock @{}", (now + life.random.below(9_000)).saturating_sub(life.random.below(4_000))),
@@ -163,6 +163,7 @@ fn random_call(life: &mut Life) {
         17 => "load".to_string(),
         18 => format!("poke loaded {}", life.random.below(2)),
         19 | 20 => format!("adjust {}", life.random_shift()),
+        21 => "single".to_string(),
         _ => "show".to_string(),
     };
     life.say(call);

@@ -11,7 +11,7 @@ use crate::identifier::PPP_LENGTH;
 pub const EDGES: [u8; 12] = *b"/09:@AZ[`az{";
 
 /// The example's meter on the calendar's first day, which is also that of the ledgers here.
-const SET_UP: &str = "setup ABCX24000017 a 1 @0 0 0";
+const SET_UP: &str = "setup ABCX24000017 a p 1 @0 0 0";
 const OPEN: &str = "open ABCX24000017 @0 1";
 
 /// What can stand in a line, which ends at the first newline.
@@ -35,7 +35,7 @@ pub fn set_ups(seed: u64) -> Script {
     let mut life = Life::new(seed);
     for place in 0..IDENTIFIER.len() {
         for byte in bytes_in_a_line() {
-            let answer = life.say(line_with("setup ", place, byte, " a 1 @0 0 0"));
+            let answer = life.say(line_with("setup ", place, byte, " a p 1 @0 0 0"));
             if is_done(&answer) {
                 life.say_all(&["read 0", "listing"]);
             } else if EDGES.contains(&byte) {
@@ -45,7 +45,7 @@ pub fn set_ups(seed: u64) -> Script {
     }
     for identifier in ["abcX24000017", "abcx24000017", "ABCX240000 1", "ABCX2400001", "ABCX240000177"] {
         for class in ["a", "d", "e", "A"] {
-            life.say(format!("setup {identifier} {class} 1 240229 110000 0 0"));
+            life.say(format!("setup {identifier} {class} p 1 240229 110000 0 0"));
             life.say_all(&["show", "access", "read 0", "listing"]);
         }
     }
@@ -53,7 +53,7 @@ pub fn set_ups(seed: u64) -> Script {
     life.say("lend 0 0 0");
     for place in 0..IDENTIFIER.len() {
         for byte in EDGES {
-            life.say(line_with("setup ", place, byte, " a 1 @0 0 0"));
+            life.say(line_with("setup ", place, byte, " a p 1 @0 0 0"));
         }
     }
     life.finish("characters at set-up")

@@ -138,7 +138,7 @@ fn lengths(life: &mut Life, class: Class) {
         life.lend(length);
         hostile::every_call(life);
         life.say("show");
-        life.say(format!("setup {IDENTIFIER} {} {UNIT_A_PULSE} 240229 110000 0 0", letter(class)));
+        life.say(format!("setup {IDENTIFIER} {} p {UNIT_A_PULSE} 240229 110000 0 0", letter(class)));
         life.say_all(&["show", "lend"]);
     }
 }

@@ -91,7 +91,7 @@ fn other_starts(life: &mut Life) {
         for two in seconds {
             for other_total in [total, total + THOUSANDTHS_PER_UNIT, total + THOUSANDTHS_PER_UNIT * VALUE_MODULUS] {
                 for (kept, total, seconds) in [(0, total, one), (1, other_total, two)] {
-                    life.say(format!("setup {IDENTIFIER} a {UNIT_A_PULSE} @{} {total} 0", day * SECONDS_PER_DAY));
+                    life.say(format!("setup {IDENTIFIER} a p {UNIT_A_PULSE} @{} {total} 0", day * SECONDS_PER_DAY));
                     life.clock(day * SECONDS_PER_DAY + seconds);
                     life.say("read 2");
                     life.say(format!("keep {kept}"));
@@ -113,7 +113,7 @@ fn other_lives(life: &mut Life) {
         let total = life.random.below(TOTAL_MODULUS);
         for kept in [0, 1, 2] {
             let identifier = if kept == 2 { OTHER_METER } else { IDENTIFIER };
-            life.say(format!("setup {identifier} b {UNIT_A_PULSE} @{} {total} 0", day * SECONDS_PER_DAY));
+            life.say(format!("setup {identifier} b p {UNIT_A_PULSE} @{} {total} 0", day * SECONDS_PER_DAY));
             for _ in 0..life.random.between(1, 6) {
                 let pulses = life.random.below(3);
                 life.pulses(pulses);

@@ -54,7 +54,7 @@ pub fn calendar(seed: u64) -> Script {
     }
     // The first day: an early reading, an early ledger.
     life.say_all(&[
-        "setup ABCX24000017 d 10000 000101 000000 0 0",
+        "setup ABCX24000017 d p 10000 000101 000000 0 0",
         "count 5",
         "reset",
         "clock 000101 003000",

@@ -43,7 +43,8 @@ pub fn set_ups(seed: u64) -> Script {
                 for total in [0, MOST_32_BITS + 1, TOTAL_MODULUS - 1, TOTAL_MODULUS, MOST_NUMBER] {
                     if life.random.once_in(3) {
                         let counter = *life.random.pick(&[0, MOST_32_BITS, MOST_32_BITS + 1]);
-                        life.say(format!("setup {IDENTIFIER} {class} {weight} {time} {total} {counter}"));
+                        let phase = *life.random.pick(&["s", "p"]);
+                        life.say(format!("setup {IDENTIFIER} {class} {phase} {weight} {time} {total} {counter}"));
                         life.say_all(&["show", "off"]);
                     }
                 }
@@ -54,19 +55,19 @@ pub fn set_ups(seed: u64) -> Script {
         let right = class.store_length();
         for lent in wrong_lengths(right) {
             life.lend(lent);
-            life.say(format!("setup {IDENTIFIER} {} {UNIT_A_PULSE} 240229 110000 0 0", letter(class)));
+            life.say(format!("setup {IDENTIFIER} {} p {UNIT_A_PULSE} 240229 110000 0 0", letter(class)));
             life.say_all(&["show", "count 0"]);
-            life.say(format!("setup {IDENTIFIER} {} {} 240229 110000 0 0", letter(class), LEAST_WEIGHT - 1));
-            life.say(format!("setup {IDENTIFIER} e {UNIT_A_PULSE} 240229 110000 0 0"));
+            life.say(format!("setup {IDENTIFIER} {} p {} 240229 110000 0 0", letter(class), LEAST_WEIGHT - 1));
+            life.say(format!("setup {IDENTIFIER} e p {UNIT_A_PULSE} 240229 110000 0 0"));
         }
         life.lend(right);
-        life.say(format!("setup {IDENTIFIER} {} {UNIT_A_PULSE} 240229 110000 123456789012 0", letter(class)));
+        life.say(format!("setup {IDENTIFIER} {} p {UNIT_A_PULSE} 240229 110000 123456789012 0", letter(class)));
         life.say_all(&["show", "day 240229", "lend", "count 4", "show"]);
         // A refused set-up leaves the store; an accepted one clears it.
         life.say("clock 240302 120000");
-        life.say(format!("setup {IDENTIFIER} {} {} 240229 110000 0 0", letter(class), MOST_WEIGHT + 1));
+        life.say(format!("setup {IDENTIFIER} {} p {} 240229 110000 0 0", letter(class), MOST_WEIGHT + 1));
         life.say("show");
-        life.say(format!("setup {IDENTIFIER} {} {MOST_WEIGHT} 240229 110000 0 0", letter(class)));
+        life.say(format!("setup {IDENTIFIER} {} p {MOST_WEIGHT} 240229 110000 0 0", letter(class)));
         life.say_all(&["day 240229", "day 240301", "day 240302", "show"]);
     }
     life.finish("hostile set-ups")

@@ -19,8 +19,8 @@ fn well_formed() -> Vec<String> {
     let (last_day, last_half_hour) = (block::MOST_DAYS - 1, HALF_HOURS - 1);
     let (most_value, longest_window) = (VALUE_MODULUS - 1, ledger::MOST_DAYS);
     split(format!(
-        "setup {IDENTIFIER} a 10000 240229 110000 0 0\n\
-         setup {IDENTIFIER} b 10000 @762000000 5000 {MOST_32_BITS}\n\
+        "setup {IDENTIFIER} a p 10000 240229 110000 0 0\n\
+         setup {IDENTIFIER} b s 10000 @762000000 5000 {MOST_32_BITS}\n\
          count 5\n\
          clock 240229 120000\n\
          clock @762000000\n\
@@ -36,6 +36,7 @@ fn well_formed() -> Vec<String> {
          ppp a-c\n\
          adjust 7\n\
          adjust -{MOST_32_BITS}\n\
+         single\n\
          read 2\n\
          read 2 {two_days}\n\
          read 0 {MOST_BYTES}\n\
@@ -213,18 +214,19 @@ fn not_understood_either() -> Vec<String> {
          poke mark 0 {past_most}\n\
          setup\n\
          setup {IDENTIFIER}\n\
-         setup {IDENTIFIER} a 10000 240229 110000 0\n\
-         setup {IDENTIFIER} a 10000 240229 110000 0 0 0\n\
-         setup {IDENTIFIER} a 10000 230229 110000 0 0\n\
-         setup {IDENTIFIER} a 10000 240229 110000 0 {past_32_bits}\n\
-         setup ABCX2400001 a 10000 @0 0 0\n\
-         setup {IDENTIFIER} a x @0 0 0\n\
-         setup {IDENTIFIER} a 1.25 @0 0 0\n\
-         setup {IDENTIFIER} a 1,250 @0 0 0\n\
-         setup {IDENTIFIER} a {past_32_bits} @0 0 0\n\
-         setup {IDENTIFIER} a 10000 @0 0.5 0\n\
-         setup {IDENTIFIER} a 10000 @0 {past_most} 0\n\
-         setup {IDENTIFIER} a 10000 @0 x 0\n\
+         setup {IDENTIFIER} a 10000 240229 110000 0 0\n\
+         setup {IDENTIFIER} a p 10000 240229 110000 0\n\
+         setup {IDENTIFIER} a p 10000 240229 110000 0 0 0\n\
+         setup {IDENTIFIER} a p 10000 230229 110000 0 0\n\
+         setup {IDENTIFIER} a p 10000 240229 110000 0 {past_32_bits}\n\
+         setup ABCX2400001 a p 10000 @0 0 0\n\
+         setup {IDENTIFIER} a p x @0 0 0\n\
+         setup {IDENTIFIER} a p 1.25 @0 0 0\n\
+         setup {IDENTIFIER} a p 1,250 @0 0 0\n\
+         setup {IDENTIFIER} a p {past_32_bits} @0 0 0\n\
+         setup {IDENTIFIER} a p 10000 @0 0.5 0\n\
+         setup {IDENTIFIER} a p 10000 @0 {past_most} 0\n\
+         setup {IDENTIFIER} a p 10000 @0 x 0\n\
          ?\n\
          ? 1\n\
          help\n\
@@ -270,7 +272,7 @@ pub fn garbled(seed: u64) -> Script {
         for line in well_formed.iter().chain(&not_understood()) {
             life.say(line);
         }
-        life.say_all(&["lend", "show", "setup ABCX24000017 a 10000 240229 110000 0 0", "read 1"]);
+        life.say_all(&["lend", "show", "setup ABCX24000017 a p 10000 240229 110000 0 0", "read 1"]);
         for line in not_understood_either() {
             life.say(line);
         }
@@ -278,7 +280,7 @@ pub fn garbled(seed: u64) -> Script {
     }
     odd_bytes(&mut life);
     life.say_all(&[
-        "setup ABCX24000017 a 10000 240229 110000 0 0",
+        "setup ABCX24000017 a p 10000 240229 110000 0 0",
         &format!("count {}", write_digits(7, MOST_DIGITS)),
         &format!("count {}", write_digits(8, MOST_DIGITS + 1)),
         &format!("rate {}", write_digits(2, MOST_DIGITS)),
@@ -297,12 +299,12 @@ pub fn garbled(seed: u64) -> Script {
 
 /// Bytes that are no printed character, and PPPs of three bytes, of fewer and of more.
 fn odd_bytes(life: &mut Life) {
-    life.say(b"setup \xff\xfe\x80\x00\x01\x7f\xc3\xa9ABCD a 10000 240229 110000 0 0");
+    life.say(b"setup \xff\xfe\x80\x00\x01\x7f\xc3\xa9ABCD a p 10000 240229 110000 0 0");
     life.say(b"open \xff\xfe\x80\x00\x01\x7f\xc3\xa9ABCD 240229 2");
     life.say(b"\xff\xfe");
     life.say(b"count \xd9\xa1");
     life.say(b"show\x00");
-    life.say(format!("setup {IDENTIFIER} a 10000 240229 110000 0 0"));
+    life.say(format!("setup {IDENTIFIER} a p 10000 240229 110000 0 0"));
     life.say(b"ppp \xff\xfe\x80");
     life.say(b"ppp ab\xc3\xa9");
     for line in ["ppp", "ppp ", "ppp a", "ppp ab", "ppp abcd", "ppp a b c", "ppp abc d", "ppp  ab", "ppp abc "] {
@@ -345,7 +347,7 @@ pub fn garble(life: &mut Life, mut line: Vec<u8>) -> Vec<u8> {
 
 /// A script of exactly the most bytes, one without a last newline, and one byte too many.
 pub fn longest() -> Vec<Script> {
-    let begin = b"setup ABCX24000017 a 10000 240229 110000 0 0\ncount 7\nshow\n#".to_vec();
+    let begin = b"setup ABCX24000017 a p 10000 240229 110000 0 0\ncount 7\nshow\n#".to_vec();
     let end = b"\nread 0\nshow";
     let mut scripts = Vec::new();
     for (name, length) in [("longest", MOST_SCRIPT_BYTES), ("too long", MOST_SCRIPT_BYTES + 1)] {

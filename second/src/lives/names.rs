@@ -48,7 +48,7 @@ fn characters(place: usize) -> Vec<u8> {
 /// Some hours between reads, in most of them another PPP; the PPPs that the run had.
 fn run(life: &mut Life, meter: &str, first: u64, total: u64) -> Vec<String> {
     let mut ppps = vec![life.random_ppp()];
-    life.say(format!("setup {}{meter} a {UNIT_A_PULSE} @{} {total} 0", ppps[0], first * SECONDS_PER_DAY));
+    life.say(format!("setup {}{meter} a p {UNIT_A_PULSE} @{} {total} 0", ppps[0], first * SECONDS_PER_DAY));
     for kept in 0..life.random.between(3, RUN_READS) {
         for _ in 0..life.random.between(1, 3) {
             let pulses = life.random.below(300);
@@ -99,7 +99,7 @@ fn other_meter(life: &mut Life, meter: &str, first: u64, total: u64) {
     others.retain(|&character| character != identifier[place]);
     identifier[place] = *life.random.pick(&others);
     let identifier: String = identifier.into_iter().map(char::from).collect();
-    life.say(format!("setup {identifier} a {UNIT_A_PULSE} @{} {total} 0", first * SECONDS_PER_DAY));
+    life.say(format!("setup {identifier} a p {UNIT_A_PULSE} @{} {total} 0", first * SECONDS_PER_DAY));
     life.clock(first * SECONDS_PER_DAY + SECONDS_PER_HALF_HOUR);
     life.say_all(&["read 1", &format!("keep {OF_OTHER_METER}")]);
 }
@@ -197,7 +197,7 @@ pub fn refusals(seed: u64) -> Script {
         (&["off", "poke letter 1 45"], &["poke letter 1 48", "on @1000000000"]),
         (&["off", "poke letter 1 45", "lend 0 0 0"], &["lend", "poke letter 1 48", "on @1000000000"]),
     ];
-    life.say(format!("setup {IDENTIFIER} a 1 @1000000000 0 0"));
+    life.say(format!("setup {IDENTIFIER} a p 1 @1000000000 0 0"));
     for (spoil, mend) in states {
         for place in 0..PPP_LENGTH {
             for edge in EDGES {

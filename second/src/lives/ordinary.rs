@@ -1,7 +1,7 @@
-//! Ordinary lives: weeks of counts, clocks, adjustments, outages, accesses, resets, PPPs and reads,
+//! Ordinary lives: weeks of counts, clocks, adjustments, outages, accesses, resets, PPPs, conversions and reads,
 //! and the ledgers that take their blocks lost, repeated and shuffled.
 
-use super::{letter, with_ppp, write_into, Life, Script, IDENTIFIER, UNIT_A_PULSE};
+use super::{letter, phase_letter, with_ppp, write_into, Life, Script, IDENTIFIER, UNIT_A_PULSE};
 use crate::block::{self, RATES};
 use crate::calendar::{self, SECONDS_PER_DAY, SECONDS_PER_HALF_HOUR};
 use crate::ledger;
@@ -97,7 +97,8 @@ pub fn ledgers(seed: u64) -> Script {
     life.finish("ordinary ledgers")
 }
 
-/// Sets an outstation up somewhere in the calendar with so many days to come, and with any PPP; the day's number.
+/// Sets an outstation up somewhere in the calendar with so many days to come, of either phase kind and with any PPP; the
+/// day's number.
 fn begin(life: &mut Life, class: Class, days: u64) -> u64 {
     let first = life.random.below(calendar::DAYS - days - 5);
     let time = first * SECONDS_PER_DAY + life.random.below(SECONDS_PER_DAY);
@@ -117,7 +118,8 @@ fn begin(life: &mut Life, class: Class, days: u64) -> u64 {
         _ => life.random.bits() as u32,
     };
     let (identifier, time) = (with_ppp(&life.random_ppp()), life.time_words(time));
-    life.say(format!("setup {identifier} {} {weight} {time} {total} {counter}", letter(class)));
+    let (class, phase) = (letter(class), phase_letter(life.random_phase()));
+    life.say(format!("setup {identifier} {class} {phase} {weight} {time} {total} {counter}"));
     first
 }
 
@@ -155,6 +157,9 @@ fn step(life: &mut Life, reads: &mut usize, reading: u64) {
         97 => {
             let day = life.today().saturating_sub(life.random.below(Class::A.days() as u64 + 5));
             life.day(day);
+        }
+        98 if life.random.once_in(9) => {
+            life.say("single");
         }
         _ => {
             life.say("show");

@@ -11,7 +11,6 @@ pub mod refused;
 pub mod switching;
 
 use super::Life;
-use crate::block::RATES;
 use crate::calendar::{self, LAST_DAY, MINUTES, MINUTES_PER_DAY, MINUTES_PER_HALF_HOUR, WEEKDAYS};
 use crate::random::Random;
 use crate::tariff::{
@@ -46,8 +45,9 @@ pub fn every_year(day_type: u8, day: u64) -> Slot {
     [kind, day_type, EVERY_YEAR, month, day]
 }
 
-/// Entries of an accepted table in any order, with exceptions about a day. Day types and times may be unused.
-pub fn random_entries(random: &mut Random, about: u64) -> Vec<Slot> {
+/// Entries of an accepted table in any order, with exceptions about a day and rates up to one. Day types and times may be
+/// unused.
+pub fn random_entries(random: &mut Random, about: u64, most_rate: u64) -> Vec<Slot> {
     let mut types: Vec<u8> = (1..=DAY_TYPES).collect();
     random.shuffle(&mut types);
     types.truncate(random.between(1, DAY_TYPES.into()) as usize);
@@ -60,7 +60,7 @@ pub fn random_entries(random: &mut Random, about: u64) -> Vec<Slot> {
             entries.push(new);
         }
     }
-    entries.extend(random_times(random, &types));
+    entries.extend(random_times(random, &types, most_rate));
     random.shuffle(&mut entries);
     entries
 }
@@ -99,9 +99,9 @@ fn clash(one: &Slot, other: &Slot) -> bool {
 }
 
 /// Each day type's rate from 00:00, and times on half-hours, beside them and anywhere, now and then all that there may be.
-fn random_times(random: &mut Random, types: &[u8]) -> Vec<Slot> {
+fn random_times(random: &mut Random, types: &[u8], most_rate: u64) -> Vec<Slot> {
     let mut times: BTreeMap<(u8, usize), u8> = BTreeMap::new();
-    let rate = |random: &mut Random| random.between(1, RATES as u64) as u8;
+    let rate = |random: &mut Random| random.between(1, most_rate) as u8;
     for &day_type in types {
         times.insert((day_type, 0), rate(random));
     }
@@ -140,7 +140,7 @@ fn entry_line(random: &mut Random, slot: usize, entry: &Slot) -> String {
 
 impl Life {
     /// The editor's table becomes these entries, from slot 0 on.
-    fn edit(&mut self, entries: &[Slot]) {
+    pub fn edit(&mut self, entries: &[Slot]) {
         self.say("blank");
         for (slot, entry) in entries.iter().enumerate() {
             let line = entry_line(&mut self.random, slot, entry);
@@ -157,13 +157,15 @@ impl Life {
         }
     }
 
-    fn edit_random(&mut self, about: u64) -> Vec<Slot> {
-        let entries = random_entries(&mut self.random, about);
+    /// A table by chance, of rates that the outstation can choose.
+    pub fn edit_random(&mut self, about: u64) -> Vec<Slot> {
+        let most_rate = self.player.recorder.phase.most_rate();
+        let entries = random_entries(&mut self.random, about, most_rate);
         self.edit(&entries);
         entries
     }
 
-    fn rate_at(&mut self, time: u64) {
+    pub fn rate_at(&mut self, time: u64) {
         let time = self.time_words(time);
         self.say(format!("rateat {time}"));
     }

@@ -264,7 +264,7 @@ fn set_ups(life: &mut Life) {
     }
     // Zeros in front, of as many digits as a number may have.
     let (weight, total) = (write_digits(1_250, MOST_DIGITS), write_digits(TOTAL_MODULUS - 1_250, MOST_DIGITS));
-    life.say(format!("setup {IDENTIFIER} a {weight} @0 {total} 0"));
+    life.say(format!("setup {IDENTIFIER} a p {weight} @0 {total} 0"));
     life.say_all(&["show", "count 1", "show"]);
 }
 

@@ -6,7 +6,7 @@ use crate::block::RATES;
 use crate::calendar::{self, SECONDS_PER_DAY};
 use crate::identifier::{Identifier, Ppp};
 use crate::quantities;
-use crate::recorder::{Class, Event};
+use crate::recorder::{Class, Event, Phase};
 
 /// A number has at most so many digits.
 pub const MOST_DIGITS: usize = 18;
@@ -114,6 +114,7 @@ pub fn event(words: &[Word]) -> Option<Event<'static>> {
         [b"reverse"] => Event::Reverse,
         [b"ppp", characters] => Event::Ppp(ppp(characters)?),
         [b"adjust", n] => Event::Adjust(signed(n)?),
+        [b"single"] => Event::Single,
         _ => return None,
     })
 }
@@ -121,6 +122,14 @@ pub fn event(words: &[Word]) -> Option<Event<'static>> {
 pub fn class(word: Word) -> Option<Option<Class>> {
     match word {
         [letter] if letter.is_ascii_alphabetic() => Some(Class::of_letter(*letter)),
+        _ => None,
+    }
+}
+
+/// No letter but those of the two kinds is understood.
+pub fn phase(word: Word) -> Option<Phase> {
+    match word {
+        [letter] => Phase::of_letter(*letter),
         _ => None,
     }
 }

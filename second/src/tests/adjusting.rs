@@ -12,18 +12,13 @@ fn begun(time: &str) -> Outstation {
     Outstation::new(Class::A, 10_000, &format!("240229{time}"), 0, 0)
 }
 
-/// All that an outstation has.
-fn whole(outstation: &Outstation) -> (Recorder, Vec<u16>, Vec<u32>, Vec<u64>) {
-    (outstation.recorder, outstation.values.clone(), outstation.starts.clone(), outstation.marks.clone())
-}
-
 /// Accepted moves inside the half-hour: the time and the mark alone change.
 fn stays(from: &str, seconds: i64, to: &str) {
     let mut outstation = begun(from);
-    let before = whole(&outstation);
+    let before = outstation.clone();
     assert_eq!(outstation.event(Event::Adjust(seconds)), 0, "{from} {seconds}");
-    let recorder = Recorder { time: at(&format!("240229{to}")), level2: true, ..before.0 };
-    assert_eq!(whole(&outstation), (recorder, before.1, before.2, before.3), "{from} {seconds}");
+    let recorder = Recorder { time: at(&format!("240229{to}")), level2: true, ..before.recorder };
+    assert_eq!(outstation, Outstation { recorder, ..before }, "{from} {seconds}");
 }
 
 /// Moves to 12:30:00: the half-hour is closed with the mark, and the new one has none.
@@ -39,9 +34,9 @@ fn closes(from: &str, seconds: i64) {
 
 /// Refused moves change nothing.
 fn refused(outstation: &mut Outstation, seconds: i64, answer: u32) {
-    let before = whole(outstation);
+    let before = outstation.clone();
     assert_eq!(outstation.event(Event::Adjust(seconds)), answer, "{seconds}");
-    assert_eq!(whole(outstation), before);
+    assert_eq!(*outstation, before);
 }
 
 #[test]
@@ -271,7 +266,7 @@ fn reads_before_and_after_a_move_back() {
 
 #[test]
 fn the_words_of_a_script() {
-    let set_up = "setup ABCX24000017 a 10000 240229 121500 0 0";
+    let set_up = "setup ABCX24000017 a p 10000 240229 121500 0 0";
     for (line, answer) in [
         ("adjust 0", "0 0"),
         ("adjust -0", "0 0"),

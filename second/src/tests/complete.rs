@@ -109,9 +109,9 @@ fn a_store_for_the_complete_days_alone_is_too_short() {
     ] {
         let lines = [
             &format!("lend {complete}"),
-            &format!("setup ABCX24000017 {letter} 10000 240229 000000 0 0"),
+            &format!("setup ABCX24000017 {letter} p 10000 240229 000000 0 0"),
             &format!("lend {held}"),
-            &format!("setup ABCX24000017 {letter} 10000 240229 000000 0 0"),
+            &format!("setup ABCX24000017 {letter} p 10000 240229 000000 0 0"),
             &format!("lend {complete}"),
             "access",
             "read 0",
@@ -126,7 +126,7 @@ fn a_store_for_the_complete_days_alone_is_too_short() {
 fn days_stored_at_most() {
     for (letter, held) in [("a", 21), ("b", 101), ("c", 251), ("d", 451)] {
         for (days, answer) in [(0, "5 0"), (1, "0 0"), (held - 1, "0 0"), (held, "0 0"), (held + 1, "5 0")] {
-            let set_up = format!("setup ABCX24000017 {letter} 10000 240229 000000 0 0");
+            let set_up = format!("setup ABCX24000017 {letter} p 10000 240229 000000 0 0");
             let lines = [&set_up, &format!("poke days {days}"), "access"];
             assert_eq!(answers(&lines), ["0 0", "0 0", answer], "{letter} {days}");
         }
@@ -251,7 +251,7 @@ fn a_class_b_store_is_listed() {
 #[test]
 fn what_a_script_takes_at_most() {
     let taken = [
-        "setup ABCX24000017 d 10000 240229 000000 0 0",
+        "setup ABCX24000017 d p 10000 240229 000000 0 0",
         "read 0 98881",
         "cut 98881",
         "byte 98880 1",

@@ -1,10 +1,10 @@
 //! Every complete day of the class is there, whatever happens, the identifier is set-up's with the last PPP accepted, and
-//! each rate register has what was counted while its rate was active: random lives, in which clocks are adjusted, beside
-//! a history that forgets nothing.
+//! each rate register has what was counted while its rate was active: random lives of both phase kinds, in which clocks
+//! are adjusted and outstations converted, beside a history that forgets nothing.
 
 use super::tariff::rate_by_looking;
 use super::*;
-use crate::answer::HALF_HOUR_ENDED;
+use crate::answer::{HALF_HOUR_ENDED, TABLE_LOADED};
 use crate::block::{DEMAND_RESET, METER_CHANGED, POWER_LOST, RATES};
 use crate::calendar::{day_of, ended, HALF_HOURS, SECONDS_PER_DAY, SECONDS_PER_HALF_HOUR};
 use crate::lives;
@@ -22,6 +22,9 @@ pub struct History {
     last: u32,
     pub rate: u64,
     pub registers: [u64; RATES],
+    start_total: u64,
+    /// On single phase, what stood in the registers of the rates that it has not when it began.
+    pub kept: Option<[u64; 4]>,
     table: Option<Vec<u8>>,
     off_since: u64,
     reverse: bool,
@@ -45,6 +48,8 @@ impl History {
             last,
             rate: 1,
             registers: [0; RATES],
+            start_total: total,
+            kept: (given.phase == Phase::Single).then_some([0; 4]),
             table: None,
             off_since: 0,
             reverse: false,
@@ -95,6 +100,11 @@ impl History {
                 self.table = Some(table.to_vec());
                 self.switch();
             }
+            Event::Single => {
+                let [_, _, _, _, kept @ ..] = self.registers;
+                self.kept = Some(self.kept.unwrap_or(kept));
+                self.rate = if self.rate > 4 { 1 } else { self.rate };
+            }
             Event::Reverse => self.reverse = true,
             Event::Ppp(ppp) => {
                 let nine = self.identifier[3..].to_vec();
@@ -136,6 +146,23 @@ impl History {
         }
     }
 
+    /// The answer due while power is on: to an adjustment, to a conversion, and to a choice of the rate, but for a table's
+    /// own faults.
+    fn due(&self, event: Event) -> Option<u32> {
+        let most = if self.kept.is_some() { 4 } else { 8 };
+        match event {
+            Event::Adjust(seconds) => Some(walked(self.time, seconds).err().unwrap_or(0)),
+            Event::Rate(rate) if !(1..=most).contains(&rate) => Some(OUT_OF_RANGE),
+            Event::Rate(_) => Some(if self.table.is_some() { TABLE_LOADED } else { 0 }),
+            Event::Load(table) if most == 4 && names_above_four(table) => Some(OUT_OF_RANGE),
+            Event::Single => {
+                let refused = self.table.as_ref().is_some_and(|table| names_above_four(table));
+                Some(if refused { OUT_OF_RANGE } else { 0 })
+            }
+            _ => None,
+        }
+    }
+
     /// Today as a read sends it.
     fn today_filled(&self) -> Day {
         let mut today = *self.day(day_of(self.time));
@@ -154,9 +181,12 @@ pub struct Watched {
 
 impl Watched {
     pub fn begin(class: Class, random: &mut Random) -> Watched {
-        let time = calendar::write_time(random.below(20_000 * SECONDS_PER_DAY));
+        let time = random.below(20_000 * SECONDS_PER_DAY);
         let total = random.below(TOTAL_MODULUS);
-        let outstation = Outstation::new(class, WEIGHT, &time, total, random.bits() as u32);
+        let phase = *random.pick(&[Phase::Poly, Phase::Poly, Phase::Single]);
+        let counter = random.bits() as u32;
+        let given = SetUp { identifier: IDENTIFIER, class: Some(class), phase, weight: WEIGHT, time, total, counter };
+        let outstation = Outstation::set_up(&given);
         let history = History::new(&outstation.recorder, (total / 10_000) as u32);
         Watched { outstation, history }
     }
@@ -174,15 +204,18 @@ impl Watched {
 
     /// An event, and then all that must be there. Time may fall, half-hours never do.
     pub fn event(&mut self, event: Event) {
-        let Recorder { time: began, power, .. } = self.outstation.recorder;
+        let began = self.outstation.recorder.time;
+        let before = self.outstation.clone();
         let answer = self.outstation.event(event);
-        if let Event::Adjust(seconds) = event {
-            let due = if power { walked(began, seconds).err().unwrap_or(0) } else { WRONG_POWER };
-            assert_eq!(answer, due, "{seconds} seconds from {began}");
+        if let Some(due) = self.history.due(event) {
+            assert_eq!(answer, if before.recorder.power { due } else { WRONG_POWER }, "{event:?} at {began}");
         }
         if answer == 0 {
             self.history.accept(event);
+        } else {
+            assert!(self.outstation == before, "{event:?} at {began}");
         }
+        self.rates();
         let Recorder { identifier, time, rate, registers, .. } = self.outstation.recorder;
         assert!(time / SECONDS_PER_HALF_HOUR >= began / SECONDS_PER_HALF_HOUR);
         assert_eq!((identifier, time), (self.history.identifier, self.history.time));
@@ -194,6 +227,18 @@ impl Watched {
         self.today();
         if self.outstation.recorder.power {
             self.read();
+        }
+    }
+
+    /// The registers sum to the total, and single phase changes none but its own.
+    fn rates(&self) {
+        let Recorder { total, rate, registers, phase, .. } = self.outstation.recorder;
+        let sum = registers.iter().sum::<u64>();
+        assert_eq!(total, (self.history.start_total + sum) % TOTAL_MODULUS);
+        assert_eq!(phase == Phase::Single, self.history.kept.is_some());
+        if let Some(kept) = self.history.kept {
+            assert!((1..=4).contains(&rate));
+            assert_eq!(registers[4..], kept);
         }
     }
 
@@ -225,6 +270,11 @@ impl Watched {
             assert_eq!(sent, self.history.day(*day));
         }
     }
+}
+
+/// Some switching time, used or not, has a rate above four.
+fn names_above_four(table: &[u8]) -> bool {
+    table.chunks(5).any(|slot| slot[0] == 1 && slot[4] > 4)
 }
 
 /// Where an adjustment leads, second by second: a step back from a boundary would leave the half-hour.
@@ -296,6 +346,7 @@ pub fn any_event(watched: &Watched, random: &mut Random) -> Event<'static> {
         15 => Event::Ppp(any_ppp(random)),
         16..=18 => Event::Adjust(any_shift(recorder.time, random)),
         _ if random.once_in(2) => Event::Reset,
+        _ if random.once_in(6) => Event::Single,
         _ => Event::Rate(random.below(RATES as u64 + 2) as u32),
     }
 }

@@ -115,7 +115,7 @@ fn a_block_of_the_most_days_and_one_more() {
 #[test]
 fn refusals_change_nothing() {
     let lines = [
-        "setup ABCX24000017 a 10000 240229 110000 5000 0",
+        "setup ABCX24000017 a p 10000 240229 110000 5000 0",
         "count 20",
         "access",
         "read 1",
@@ -147,7 +147,7 @@ fn refusals_change_nothing() {
     }
     let seen = |player: &mut Player| look.map(|line| player.play_line(1, line.as_bytes()));
     let before = seen(&mut player);
-    for line in refused.into_iter().chain(["adjust 901", "adjust -901", "adjust -1", "adjust --1"]) {
+    for line in refused.into_iter().chain(["adjust 901", "adjust -901", "adjust -1", "adjust --1", "single 1"]) {
         let answer = player.play_line(1, line.as_bytes()).unwrap();
         assert!(!answer.starts_with("0 "), "{line}");
         assert_eq!(seen(&mut player), before, "{line}");
@@ -209,6 +209,7 @@ fn hostile_numbers_never_panic() {
     };
     assert_eq!(recorder.step(Event::Count(0), &mut store).1, Answer::refused(DAMAGED));
     assert_eq!(recorder.step(Event::Adjust(i64::MIN), &mut store).1, Answer::refused(DAMAGED));
+    assert_eq!(recorder.step(Event::Single, &mut store).1, Answer::refused(DAMAGED));
     assert_eq!(ledger::open(&IDENTIFIER, hostile, hostile, &mut []), Answer::refused(OUT_OF_RANGE));
     assert_eq!(ledger::summary(&[255; 200], hostile).answer, DAMAGED);
 }

@@ -34,11 +34,6 @@ fn opened(identifier: &Identifier) -> Vec<u8> {
     bytes
 }
 
-/// All that an outstation has.
-fn whole(outstation: &Outstation) -> (Recorder, Vec<u16>, Vec<u32>, Vec<u64>) {
-    (outstation.recorder, outstation.values.clone(), outstation.starts.clone(), outstation.marks.clone())
-}
-
 #[test]
 fn small_letters_in_ppp_at_set_up_and_opening() {
     for (identifier, answer) in [
@@ -49,7 +44,7 @@ fn small_letters_in_ppp_at_set_up_and_opening() {
         ("ABCXa4000017", "6 0"),
         ("AB-X24000017", "6 0"),
     ] {
-        let set_up = format!("setup {identifier} a 10000 240229 000000 0 0");
+        let set_up = format!("setup {identifier} a p 10000 240229 000000 0 0");
         assert_eq!(answers(&[&set_up, &format!("open {identifier} 240229 2")]), [answer, answer]);
     }
 }
@@ -99,7 +94,8 @@ fn one_rule_for_an_identifier_everywhere() {
 }
 
 fn set_up_with(identifier: Identifier) -> u32 {
-    let given = SetUp { identifier, class: Some(Class::A), weight: 1, time: 0, total: 0, counter: 0 };
+    let given =
+        SetUp { identifier, class: Some(Class::A), phase: Phase::Poly, weight: 1, time: 0, total: 0, counter: 0 };
     let (values, starts, marks, table) = (&mut [0; 1_008], &mut [0; 21], &mut [0; 63], &mut [0; 440]);
     let (recorder, answer) = recorder::set_up(&given, &mut Store { values, starts, marks, table });
     assert_eq!(recorder.identifier, if answer.number == 0 { identifier } else { [0; 12] });
@@ -122,6 +118,7 @@ fn recorder_with(identifier: Identifier) -> u32 {
         Event::Reverse,
         Event::Ppp(*b"ABC"),
         Event::Adjust(0),
+        Event::Single,
     ] {
         outstation.recorder = begun;
         numbers.push(outstation.event(event));
@@ -161,13 +158,13 @@ fn ppp_changes_nothing_but_the_three_and_the_mark() {
     outstation.event(Event::Rate(5));
     outstation.event(Event::Clock(at("240229101500")));
     outstation.event(Event::Reverse);
-    let before = whole(&outstation);
+    let before = outstation.clone();
     for ppp in [*b"Z9z", *b"Z9z", *b"000", *b"ABC"] {
         outstation.recorder.level2 = false;
         assert_eq!(outstation.event(Event::Ppp(ppp)), 0);
         let identifier = [&ppp[..], b"X24000017"].concat().try_into().unwrap();
-        let expected = Recorder { identifier, level2: true, ..before.0 };
-        assert_eq!(whole(&outstation), (expected, before.1.clone(), before.2.clone(), before.3.clone()));
+        let recorder = Recorder { identifier, level2: true, ..before.recorder };
+        assert_eq!(outstation, Outstation { recorder, ..before.clone() });
     }
 }
 
@@ -208,14 +205,14 @@ fn a_refused_ppp_leaves_all_as_it_was() {
             let mut outstation = begun();
             let mut ppp = *b"z9Z";
             ppp[place] = character;
-            let before = whole(&outstation);
+            let before = outstation.clone();
             let accepted = may_stand(place, character);
             assert_eq!(outstation.event(Event::Ppp(ppp)), if accepted { 0 } else { OUT_OF_RANGE });
-            assert_eq!(whole(&outstation) == before, !accepted, "{place} {character}");
+            assert_eq!(outstation == before, !accepted, "{place} {character}");
             outstation.event(Event::Off);
-            let off = whole(&outstation);
+            let off = outstation.clone();
             assert_eq!(outstation.event(Event::Ppp(ppp)), WRONG_POWER);
-            assert_eq!(whole(&outstation), off);
+            assert_eq!(outstation, off);
         }
     }
     for (damage, number) in [(0, WRONG_LENGTH), (1, DAMAGED), (2, DAMAGED)] {
@@ -226,9 +223,9 @@ fn a_refused_ppp_leaves_all_as_it_was() {
                 1 => outstation.recorder.identifier[2] = b'-',
                 _ => outstation.recorder.class = None,
             }
-            let before = whole(&outstation);
+            let before = outstation.clone();
             assert_eq!(outstation.event(Event::Ppp(ppp)), number);
-            assert_eq!(whole(&outstation), before);
+            assert_eq!(outstation, before);
         }
     }
 }
@@ -236,7 +233,7 @@ fn a_refused_ppp_leaves_all_as_it_was() {
 #[test]
 fn ppp_in_a_script() {
     let lines = [
-        "setup ABCX24000017 a 10000 240229 000000 0 0",
+        "setup ABCX24000017 a p 10000 240229 000000 0 0",
         "ppp Z9z",
         "ppp a-c",
         "read 0",
@@ -261,7 +258,7 @@ fn ppp_in_a_script() {
         assert_eq!(answers(&[line]), ["? 1"], "{line}");
     }
     for word in [b"\xff\xfe\x80", b"\xc3\xa9A", b"\0\0\0", b"a\tb", b"ab\r", b"#ab", b"@12"] {
-        let script = [b"setup ABCX24000017 a 1 @0 0 0\nppp ", &word[..], b"\nread 0\nblock"].concat();
+        let script = [b"setup ABCX24000017 a p 1 @0 0 0\nppp ", &word[..], b"\nread 0\nblock"].concat();
         let played = script::play(&script);
         assert_eq!((played[1].answer.as_str(), &played[3].answer[10..16]), ("6 0", "414243"));
     }

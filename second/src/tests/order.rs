@@ -43,7 +43,7 @@ fn the_order_of_a_read_s_answers() {
     let room = Class::A.room(calendar::read_date(b"240229").unwrap());
     let asked_too_many = &format!("read {}", recorder::MOST_ASKED + 1);
     let lines = [
-        "setup ABCX24000017 a 10000 240229 110000 0 0",
+        "setup ABCX24000017 a p 10000 240229 110000 0 0",
         &format!("poke start {room} {}", quantities::READING_MODULUS),
         asked_too_many,
         "read 1 0",
@@ -63,14 +63,14 @@ fn the_order_of_a_read_s_answers() {
 fn set_up_and_opening_check_6_before_4() {
     let lines = [
         "lend 0 0 0",
-        "setup ABCX24000017 a 0 @0 0 0",
-        "setup ABCX24000017 a 1 @0 0 0",
+        "setup ABCX24000017 a p 0 @0 0 0",
+        "setup ABCX24000017 a p 1 @0 0 0",
         "show",
         "off",
-        "setup ABCX24000017 e 1 @0 0 0",
-        &format!("setup ABCX24000017 a 1 @{} 0 0", calendar::LAST_TIME + 1),
+        "setup ABCX24000017 e p 1 @0 0 0",
+        &format!("setup ABCX24000017 a p 1 @{} 0 0", calendar::LAST_TIME + 1),
     ];
-    let blank = ["0"; 25].join(" ");
+    let blank = ["0"; 25].join(" ") + " 3";
     assert_eq!(answers(&lines), ["0 0", "6 0", "4 0", &blank, "5 0", "6 0", "6 0"]);
     let mut short = [1; ledger::HEADER_BYTES - 1];
     let last = calendar::LAST_DAY;

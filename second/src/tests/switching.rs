@@ -160,9 +160,15 @@ fn a_room_of_another_length() {
         let before = outstation.recorder;
         outstation.table.resize(length, 1);
         let w = table(&W);
-        for event in
-            [Event::Count(1), Event::Clock(before.time), Event::Off, Event::Rate(1), Event::Adjust(0), Event::Load(&w)]
-        {
+        for event in [
+            Event::Count(1),
+            Event::Clock(before.time),
+            Event::Off,
+            Event::Rate(1),
+            Event::Adjust(0),
+            Event::Load(&w),
+            Event::Single,
+        ] {
             assert_eq!(outstation.event(event), WRONG_LENGTH);
         }
         // A read looks at no table.
@@ -174,7 +180,7 @@ fn a_room_of_another_length() {
 }
 
 fn set_up(weight: u64) -> SetUp {
-    SetUp { identifier: IDENTIFIER, class: Some(Class::A), weight, time: 0, total: 0, counter: 0 }
+    SetUp { identifier: IDENTIFIER, class: Some(Class::A), phase: Phase::Poly, weight, time: 0, total: 0, counter: 0 }
 }
 
 #[test]
@@ -228,8 +234,8 @@ fn scripts_edit_a_table_as_the_page_says() {
         "lend",
         "rateat @0",
         "week @0",
-        "setup ABCX24000017 e 1 @0 0 0",
-        "setup ABCX24000017 a 1 @0 0 0",
+        "setup ABCX24000017 e p 1 @0 0 0",
+        "setup ABCX24000017 a p 1 @0 0 0",
         "table",
     ];
     let answers = answers(&lines);
@@ -247,7 +253,8 @@ fn registers_and_rates_under_one_table_after_another() {
         for _ in 0..500 {
             if random.once_in(15) {
                 let about = watched.history.time / SECONDS_PER_DAY;
-                let mut bytes = table(&lives::random_entries(&mut random, about));
+                let most_rate = *random.pick(&[4, 4, 5, 8]);
+                let mut bytes = table(&lives::random_entries(&mut random, about, most_rate));
                 if random.once_in(3) {
                     bytes[random.below(440) as usize] ^= 1;
                 }

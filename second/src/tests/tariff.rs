@@ -253,7 +253,7 @@ fn any_order_gives_the_same_rate_at_every_second() {
     let mut random = Random::new(3);
     for _ in 0..60 {
         let about = random.below(calendar::DAYS);
-        let bytes = table(&lives::random_entries(&mut random, about));
+        let bytes = table(&lives::random_entries(&mut random, about, 8));
         assert_eq!(number(&bytes), 0);
         let other = shuffled(&bytes, &mut random);
         assert_eq!(number(&other), 0);
@@ -273,7 +273,7 @@ fn a_damaged_table_has_the_rate_of_the_lowest_slots() {
     let mut random = Random::new(4);
     for round in 0..400 {
         let about = random.below(calendar::DAYS);
-        let mut bytes = table(&lives::random_entries(&mut random, about));
+        let mut bytes = table(&lives::random_entries(&mut random, about, 8));
         for _ in 0..random.between(1, 200) {
             let most = *random.pick(&[6, 10, 101, 256]);
             bytes[random.below(440) as usize] = random.below(most) as u8;

@@ -24,11 +24,11 @@ fn refused_and_accepted(weight: u64, total: u64, refused: u32, accepted: u32) ->
 #[test]
 fn weights_at_set_up_and_poked() {
     for (weight, answer) in [(0, "6 0"), (1, "0 0"), (100_000, "0 0"), (100_001, "6 0")] {
-        assert_eq!(answers(&[&format!("setup ABCX24000017 a {weight} 240229 000000 0 0")]), [answer]);
+        assert_eq!(answers(&[&format!("setup ABCX24000017 a p {weight} 240229 000000 0 0")]), [answer]);
     }
     for (weight, answer) in [(0, "5 0"), (1, "0 0"), (100_000, "0 0"), (100_001, "5 0")] {
         let poke = format!("poke weight {weight}");
-        let lines = ["setup ABCX24000017 a 1250 240229 000000 0 0", &poke, "access", "read 0 112", "off"];
+        let lines = ["setup ABCX24000017 a p 1250 240229 000000 0 0", &poke, "access", "read 0 112", "off"];
         assert_eq!(answers(&lines)[2..], [answer, if answer == "0 0" { "0 112" } else { answer }, answer]);
     }
 }
@@ -36,12 +36,12 @@ fn weights_at_set_up_and_poked() {
 #[test]
 fn totals_and_registers_at_set_up_and_poked() {
     for (total, answer) in [(999_999_999_999_u64, "0 0"), (1_000_000_000_000, "6 0")] {
-        assert_eq!(answers(&[&format!("setup ABCX24000017 a 1250 240229 000000 {total} 0")]), [answer]);
+        assert_eq!(answers(&[&format!("setup ABCX24000017 a p 1250 240229 000000 {total} 0")]), [answer]);
     }
     for field in ["total", "register 1", "register 8"] {
         for (number, answer) in [(999_999_999_999_u64, "0 0"), (1_000_000_000_000, "5 0")] {
             let poke = format!("poke {field} {number}");
-            let lines = ["setup ABCX24000017 a 1250 240229 000000 0 0", &poke, "access"];
+            let lines = ["setup ABCX24000017 a p 1250 240229 000000 0 0", &poke, "access"];
             assert_eq!(answers(&lines), ["0 0", "0 0", answer]);
         }
     }
@@ -50,10 +50,10 @@ fn totals_and_registers_at_set_up_and_poked() {
 #[test]
 fn scripts_take_and_show_thousandths() {
     let lines = [
-        "setup ABCX24000017 a 1250 000101 000000 999999999999 0",
+        "setup ABCX24000017 a p 1250 000101 000000 999999999999 0",
         "poke register 2 123456789012",
         "show",
-        "setup ABCX24000017 a 1.25 000101 000000 0 0",
+        "setup ABCX24000017 a p 1.25 000101 000000 0 0",
         "poke total 0.5",
         "count 1",
         "show",
@@ -62,11 +62,11 @@ fn scripts_take_and_show_thousandths() {
     assert_eq!(
         answers(&lines)[2..],
         [
-            "1 1250 0 1 1 999999999999 0 1 0 123456789012 0 0 0 0 0 0 0 0 0 0 0 99999999 0 0 0",
+            "1 1250 0 1 1 999999999999 0 1 0 123456789012 0 0 0 0 0 0 0 0 0 0 0 99999999 0 0 0 3",
             "? 4",
             "? 5",
             "0 0",
-            "1 1250 0 1 1 1249 1 1 1250 123456789012 0 0 0 0 0 0 0 0 0 0 0 99999999 0 0 0"
+            "1 1250 0 1 1 1249 1 1 1250 123456789012 0 0 0 0 0 0 0 0 0 0 0 99999999 0 0 0 3"
         ]
     );
 }
@@ -74,10 +74,10 @@ fn scripts_take_and_show_thousandths() {
 #[test]
 fn a_weight_takes_32_bits_and_totals_18_digits() {
     let lines = [
-        "setup ABCX24000017 a 4294967295 @0 0 0",
-        "setup ABCX24000017 a 4294967296 @0 0 0",
-        "setup ABCX24000017 a 1250 @0 999999999999999999 0",
-        "setup ABCX24000017 a 1250 @0 1000000000000000000 0",
+        "setup ABCX24000017 a p 4294967295 @0 0 0",
+        "setup ABCX24000017 a p 4294967296 @0 0 0",
+        "setup ABCX24000017 a p 1250 @0 999999999999999999 0",
+        "setup ABCX24000017 a p 1250 @0 1000000000000000000 0",
         "poke weight 4294967295",
         "poke weight 4294967296",
         "poke total 999999999999999999",

@@ -13,7 +13,7 @@ const BEGIN: u64 = 1_000_000_800;
 const LATER: u64 = BEGIN + 5 * SECONDS;
 
 fn set_up() -> String {
-    format!("setup {IDENTIFIER} a {UNIT_A_PULSE} @{LATER} 0 0")
+    format!("setup {IDENTIFIER} a p {UNIT_A_PULSE} @{LATER} 0 0")
 }
 
 /// Numbers at the ends of the range and of what can be written, each of them forward and back.

@@ -8,14 +8,20 @@ use crate::calendar::{DAYS, LAST_DAY, LAST_TIME, MINUTES, MINUTES_PER_DAY, SECON
 use crate::lives::outages::pass;
 use crate::lives::{hostile, Life, Script, IDENTIFIER, UNIT_A_PULSE};
 use crate::random::Random;
-use crate::recorder::Class;
+use crate::recorder::{Class, Phase};
 use crate::script::MOST_TABLE_BYTES;
 use crate::tariff::{Slot, DEFAULT, EXCEPTION, SLOTS, SLOT_BYTES, TABLE_BYTES, TIME, UNUSED, WEEKDAY_RUN};
 
-fn begin(life: &mut Life) {
+fn begin(life: &mut Life, phase: Phase) {
     let day = life.random.below(DAYS - 20);
     let time = day * SECONDS_PER_DAY + life.random.below(SECONDS_PER_DAY);
-    life.set_up(Class::A, UNIT_A_PULSE, time, 0, 0);
+    life.set_up_as(phase, Class::A, UNIT_A_PULSE, time, 0, 0);
+}
+
+/// Of either phase kind.
+fn begin_any(life: &mut Life) {
+    let phase = life.random_phase();
+    begin(life, phase);
 }
 
 /// Time passes, by Clock or by On, and is adjusted; the rate follows where the room names one.
@@ -37,7 +43,7 @@ fn follow(life: &mut Life) {
 pub fn pokes(seed: u64) -> Script {
     let mut life = Life::new(seed);
     for _ in 0..12 {
-        begin(&mut life);
+        begin_any(&mut life);
         let today = life.today();
         let entries = life.edit_random(today);
         life.say_all(&["load", "show"]);
@@ -48,7 +54,7 @@ pub fn pokes(seed: u64) -> Script {
             life.say(format!("poke table {byte} {number}"));
             follow(&mut life);
             if life.random.once_in(8) {
-                life.say_all(&["table", "rate 3", "load", "show"]);
+                life.say_all(&["table", "rate 3", "load", "show", "single", "show"]);
             }
         }
         life.say_all(&["table", "read 2", "listing"]);
@@ -59,7 +65,7 @@ pub fn pokes(seed: u64) -> Script {
 
 /// Every byte as the rate that a damaged room names, by Clock, by On and by Adjust.
 fn every_rate(life: &mut Life) {
-    begin(life);
+    begin(life, Phase::Poly);
     life.say_all(&["blank", "at 1 0000 1", "default 1", "load"]);
     life.say(format!("poke table {} 1", TABLE_BYTES - 1));
     for rate in 0..=u8::MAX {
@@ -79,7 +85,7 @@ fn every_rate(life: &mut Life) {
 pub fn junk(seed: u64) -> Script {
     let mut life = Life::new(seed);
     for round in 0..24 {
-        begin(&mut life);
+        begin_any(&mut life);
         let rate = life.random.between(1, RATES as u64);
         life.say(format!("rate {rate}"));
         life.say_all(&["poke loaded 1", "show"]);
@@ -96,7 +102,7 @@ pub fn junk(seed: u64) -> Script {
         }
         life.say_all(&["poke loaded 0", "rate 7"]);
         follow(&mut life);
-        life.say_all(&["poke loaded 1", "rate 7", "load", "show"]);
+        life.say_all(&["poke loaded 1", "rate 7", "load", "single", "show", "poke loaded 0", "single", "show"]);
     }
     life.finish("rooms of junk")
 }
@@ -148,7 +154,7 @@ pub fn lengths(seed: u64) -> Script {
     for length in [0, 1, SLOT_BYTES, TABLE_BYTES - SLOT_BYTES, TABLE_BYTES - 1, TABLE_BYTES, MOST_TABLE_BYTES] {
         for loaded in [false, true] {
             life.say("lend");
-            begin(&mut life);
+            begin(&mut life, Phase::Poly);
             life.edit(&plain());
             if loaded {
                 life.say("load");
@@ -163,7 +169,7 @@ pub fn lengths(seed: u64) -> Script {
             }
             life.say_all(&["table", "show", "read 1", "listing", "day 240229"]);
             for class in ["a", "b", "e"] {
-                life.say(format!("setup {IDENTIFIER} {class} 1000 240229 110000 0 0"));
+                life.say(format!("setup {IDENTIFIER} {class} p 1000 240229 110000 0 0"));
                 life.say_all(&["show", "table", "read 0", "load", "show"]);
             }
             let [right, long] = [TABLE_BYTES, MOST_TABLE_BYTES].map(|length| format!("lend table {length}"));

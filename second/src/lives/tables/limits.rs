@@ -9,7 +9,7 @@ use crate::tariff::{
     Slot, DAY_TYPES, EVERY_YEAR, EXCEPTION, MOST_EXCEPTIONS, MOST_TIMES, SLOTS, SLOT_BYTES, TABLE_BYTES, TIME, UNUSED,
 };
 
-const SET_UP: &str = "setup ABCX24000017 a 1000 240228 065900 0 0";
+const SET_UP: &str = "setup ABCX24000017 a p 1000 240228 065900 0 0";
 
 /// A table that is accepted and takes an entry more of any kind but a default: each day type has its rate from 00:00.
 pub fn plain() -> Vec<Slot> {

@@ -1,6 +1,5 @@
 //! Lives of anything: the editor's lines, loads, events, damage and lent lengths by chance, one after the other.
 
-use super::random_entries;
 use crate::block::RATES;
 use crate::calendar::{self, DAYS, LAST_DAY, SECONDS_PER_DAY, WEEKDAYS};
 use crate::lives::{Life, Script, UNIT_A_PULSE};
@@ -14,9 +13,9 @@ pub fn anything(seed: u64) -> Script {
     for _ in 0..10 {
         let time = life.random.below((DAYS - 30) * SECONDS_PER_DAY);
         life.say("lend");
-        life.set_up(Class::A, UNIT_A_PULSE, time, 0, 0);
-        let entries = random_entries(&mut life.random, time / SECONDS_PER_DAY);
-        life.edit(&entries);
+        let phase = life.random_phase();
+        life.set_up_as(phase, Class::A, UNIT_A_PULSE, time, 0, 0);
+        life.edit_random(time / SECONDS_PER_DAY);
         for _ in 0..200 {
             let line = match life.random.below(10) {
                 0 | 1 => edited(&mut life),
@@ -59,7 +58,7 @@ fn edited(life: &mut Life) -> String {
 }
 
 fn event(life: &mut Life) -> String {
-    match life.random.below(14) {
+    match life.random.below(15) {
         0..=4 => "load".to_string(),
         5 => format!("load {}", TABLE_BYTES as u64 - 2 + life.random.below(4)),
         6 | 7 => format!("rate {}", about(life, RATES as u64)),
@@ -67,6 +66,7 @@ fn event(life: &mut Life) -> String {
         9 => "access".to_string(),
         10 => "off".to_string(),
         11 | 12 => format!("adjust {}", life.random_shift()),
+        13 => "single".to_string(),
         _ => "reset".to_string(),
     }
 }

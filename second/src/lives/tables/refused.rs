@@ -10,7 +10,7 @@ use crate::script::MOST_TABLE_BYTES;
 use crate::tariff::{Slot, DAY_TYPES, DEFAULT, EVERY_YEAR, EXCEPTION, TABLE_BYTES, TIME, WEEKDAY_RUN};
 
 /// A recorder of class a at a time, and its power back at that time.
-const SET_UP: &str = "setup ABCX24000017 a 1000 @1000000000 0 0";
+const SET_UP: &str = "setup ABCX24000017 a p 1000 @1000000000 0 0";
 const ON: &str = "on @1000000000";
 
 /// Two entries, and whether they clash is for the rules to say.
@@ -164,7 +164,7 @@ fn every_set_up(life: &mut Life, spoil: &[&str]) {
         for class in ["a", "e", "b"] {
             life.say("load");
             life.say_all(spoil);
-            life.say(format!("setup {IDENTIFIER} {class} {weight} @1000000000 0 0"));
+            life.say(format!("setup {IDENTIFIER} {class} p {weight} @1000000000 0 0"));
             life.say_all(&["show", "lend", "table", "load", "show", "rate 2", "show", SET_UP]);
         }
     }

@@ -47,7 +47,8 @@ fn begin(life: &mut Life, first: u64) {
     let time = first * SECONDS_PER_DAY + life.random.below(SECONDS_PER_DAY);
     let total = life.random.below(TOTAL_MODULUS);
     let counter = life.random.bits() as u32;
-    life.set_up(class, UNIT_A_PULSE, time, total, counter);
+    let phase = life.random_phase();
+    life.set_up_as(phase, class, UNIT_A_PULSE, time, total, counter);
     let rate = life.random.between(1, RATES as u64);
     life.say(format!("rate {rate}"));
     use_energy(life);
@@ -85,7 +86,7 @@ fn next_time(life: &mut Life, entries: &[Slot], days: u64) -> u64 {
 }
 
 fn step(life: &mut Life, entries: &[Slot]) {
-    match life.random.below(22) {
+    match life.random.below(23) {
         0..=9 => {
             let time = next_time(life, entries, 1);
             life.clock(time);
@@ -116,7 +117,8 @@ fn step(life: &mut Life, entries: &[Slot]) {
             life.random_adjust();
             use_energy(life);
         }
-        _ => life.say_all(&["clock @0", "count 0"]),
+        21 => life.say_all(&["clock @0", "count 0"]),
+        _ => life.say_all(&["single"]),
     }
     life.say("show");
 }
@@ -167,7 +169,7 @@ pub fn dates(seed: u64) -> Script {
     for date in DATES {
         let first = day(date);
         begin_at(&mut life, first * SECONDS_PER_DAY);
-        let mut entries = random_entries(&mut life.random, first + 3);
+        let mut entries = random_entries(&mut life.random, first + 3, RATES as u64);
         entries.retain(|entry| entry[0] != EXCEPTION);
         let named = default_type(&entries);
         entries.extend([every_year(named, first + 1), exception(named, first + 2), exception(named, first + 5)]);
