@@ -1,4 +1,4 @@
-/* An outstation with a tariff switching table as one would write it in C: the plain recorder, a table that lies beside its store, and whether one is loaded. */
+/* An outstation with a tariff switching table as one would write it in C: the plain recorder, a table that lies beside its store, whether one is loaded, and whether it is single phase. */
 #include "plain.h"
 
 #include "plain_recorder.h"
@@ -10,17 +10,29 @@ struct outstation {
     uint8_t *table;
     size_t table_length;
     bool loaded;
+    bool single;
 };
 
 /* ---- events */
 
-/* The table's room is judged with the store's lengths: before the recorder's fields, and behind a recorder that has no class. */
-static uint32_t judge_room(const struct outstation *o) { return o->recorder.cap != 0 && o->table_length != TABLE ? LENGTH : DONE; }
+enum { SINGLE_RATES = 4 };
 
-/* Where the table names no rate, the active one stays. */
+/* The highest rate that can be chosen. */
+static uint32_t most_rate(const struct outstation *o) { return o->single ? SINGLE_RATES : RATES; }
+
+/* The table's room is judged with the store's lengths: before the recorder's fields, and behind a recorder that has no class. Then an active rate that can't be chosen, behind the lengths. */
+static uint32_t judge_room(const struct outstation *o) {
+    if (o->recorder.cap != 0 && o->table_length != TABLE)
+        return LENGTH;
+    if (o->recorder.cap != 0 && most_rate(o) < o->recorder.rate)
+        return judge_recorder(&o->recorder, &o->store) == LENGTH ? LENGTH : DAMAGED;
+    return DONE;
+}
+
+/* Where the table names no rate that can be chosen, the active one stays. */
 static void switch_rate(struct outstation *o) {
     uint32_t rate = plain_rate_in(o->table, o->recorder.time);
-    if (1 <= rate && rate <= RATES)
+    if (1 <= rate && rate <= most_rate(o))
         o->recorder.rate = rate;
 }
 
@@ -44,6 +56,8 @@ static uint32_t load(struct outstation *o, const uint8_t *offered, size_t length
         bad = judge_recorder(&o->recorder, &o->store);
     if (bad == DONE && !o->recorder.on)
         bad = WRONG_POWER;
+    if (bad == DONE && length == TABLE && plain_names_above(offered, most_rate(o)))
+        bad = RANGE;
     if (bad == DONE)
         bad = (uint32_t)(plain_table_judge(offered, length) >> 32);
     if (bad != DONE)

@@ -33,6 +33,13 @@ static bool slot_ok(const uint8_t *s) {
     }
 }
 
+bool plain_names_above(const uint8_t *table, uint32_t rate) {
+    for (const uint8_t *s = table; s < table + TABLE; s += SLOT)
+        if (s[SLOT_ENTRY] == SWITCHING && rate < s[SLOT_FIFTH])
+            return true;
+    return false;
+}
+
 /* What has been seen of a table: sets of minutes, of weekdays and of day types are bits. */
 struct seen {
     uint8_t minutes[DAY_TYPES][MINUTES_OF_DAY / 8];
