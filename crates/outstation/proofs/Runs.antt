@@ -11,7 +11,7 @@ use Rattle.laws.specs.Checks.{firstFailing}
 use Rattle.laws.proofs.Bools.{both-of}
 use Rattle.laws.proofs.Split.{by-test}
 use Rattle.calendar.specs.Clock.{timesInAll}
-use Rattle.registers.specs.Energy.{rateCount, rateOk}
+use Rattle.registers.specs.Energy.{rateOk}
 use Rattle.recorder.specs.declared.Event.{Event}
 use Rattle.recorder.specs.declared.Event.the-variants.{Count, Clock, Off, On, Access, Meter, Reset, Rate, Reverse, Ppp, Adjust}
 use Rattle.recorder.specs.Recorder.{Mem, with}
@@ -23,7 +23,7 @@ use Rattle.recorder.proofs.Kept.{Sound, step-sound, sound-answer}
 use Rattle.tariff.specs.Table.{tableSize}
 use Rattle.tariff.specs.Judge.{namesAbove, judged}
 use Rattle.tariff.specs.Rate.{rateAt}
-use Rattle.tariff.proofs.Order.{exactly-one, none-above}
+use Rattle.tariff.proofs.Order.{exactly-one, is-rate, none-above}
 use Rattle.outstation.specs.declared.Phase.{Phase}
 use Rattle.outstation.specs.declared.Phase.the-variants.{Single}
 use Rattle.outstation.specs.Outstation.{mostRate, Site, Happening, of, load, single, isRate, tellsTime, tooHigh, asked, ownChecks, misfit, answerOf, mayChoose, rateThen, rateKept, switched, after, happens}
@@ -53,11 +53,6 @@ module _ (p : Phase) (b : List ℕ) (k : Named p b) (t : ℕ) (l : t < timesInAl
       (le-leb 1 (rateAt b t) (exactly-one b (k .accepted) t l .least))
       (le-leb (rateAt b t) (mostRate p) (none-above (mostRate p) b (k .accepted) (k .below) t l))
 
-  is-rate : rateOk (rateAt b t) ≡ true
-  is-rate =
-      let o = exactly-one b (k .accepted) t l in
-      both-of (leb 1 (rateAt b t)) (leb (rateAt b t) rateCount) (le-leb 1 (rateAt b t) (o .least)) (le-leb (rateAt b t) rateCount (o .most))
-
   pub chosen-rate : (n : ℕ) → rateThen true p b t n ≡ rateAt b t
   unfolding rateThen
   chosen-rate n = rw may
@@ -80,7 +75,7 @@ switch-moves : (x : Site) → Sound (x .mem) → x .mem .recorder .clock .on ≡
 switch-moves x s on l k =
     let t = x .mem .recorder .clock .time in
     rate-moves (x .mem) (rateAt (x .table) t) s on
-    ∙ rw (is-rate (x .phase) (x .table) k t (s .ranges .clock .time), l, chosen-rate (x .phase) (x .table) k t (s .ranges .clock .time) (x .mem .recorder .energy .rate))
+    ∙ rw (is-rate (x .table) (k .accepted) t (s .ranges .clock .time), l, chosen-rate (x .phase) (x .table) k t (s .ranges .clock .time) (x .mem .recorder .energy .rate))
 
 switch-stays : (x : Site) → x .loaded ≡ false → x .mem ≡ switched x .mem
 unfolding rateThen

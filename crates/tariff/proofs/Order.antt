@@ -50,7 +50,11 @@ exactly-one l h t u =
       most = rw same (one.in-range (slotsOf l) (a .sound) (a .free) t .1);
     }
 
--- ---- no rate above those that it names
+-- it is a rate, and none above those that the table names
+pub is-rate : (l : List ℕ) → judged l ≡ 0 → (t : ℕ) → t < timesInAll → rateOk (rateAt l t) ≡ true
+is-rate l h t u =
+    let o = exactly-one l h t u in
+    both-of (leb 1 (rateAt l t)) (leb (rateAt l t) rateCount) (le-leb 1 (rateAt l t) (o .least)) (le-leb (rateAt l t) rateCount (o .most))
 
 not-above : (n daytype minute : ℕ) (e : Entry) → applies daytype minute e ≡ true → rateOk (e .z) ≡ true → above n e ≡ false → e .z ≤ n
 unfolding applies
@@ -61,12 +65,10 @@ pub none-above : (n : ℕ) (l : List ℕ) → judged l ≡ 0 → namesAbove n l 
 unfolding namesAbove
 none-above n l h b t u =
     let a = accepted l h in
-    let o = exactly-one l h t u in
-    let y = o .one in
+    let y = exactly-one l h t u .one in
     let none : anyOf (above n) (slotsOf l) ≡ false = rw (eq-eqb (length l) tableSize (a .long)) at b in
-    let ok : rateOk (rateAt l t) ≡ true = both-of (leb 1 (rateAt l t)) (leb (rateAt l t) rateCount) (le-leb 1 (rateAt l t) (o .least)) (le-leb (rateAt l t) rateCount (o .most)) in
     rw (y .rate)
-    (not-above n (y .ruler .daytype) (minuteAt t) (y .switch) (y .force .due) (rw (y .rate) at ok)
+    (not-above n (y .ruler .daytype) (minuteAt t) (y .switch) (y .force .due) (rw (y .rate) at (is-rate l h t u))
     (by-test (above n (y .switch)) (λ z. absurd (false≢true (sym none ∙ any-in (above n) (slotsOf l) (y .switch) (y .force .stands) z))) (λ z. z)))
 
 -- ---- any order
