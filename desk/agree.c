@@ -33,7 +33,6 @@ static const struct {
     [WINDOW] = {"window", {COP6_DONE, COP6_LENGTH, COP6_DAMAGED}, 3},
     [MISSING] = {"missing", {COP6_DONE, COP6_LENGTH, COP6_DAMAGED, COP6_RANGE}, 4},
     [SUMMARY] = {"summary", {COP6_DONE, COP6_LENGTH, COP6_DAMAGED, COP6_RANGE, COP6_SHORT}, 5},
-    [PAGE] = {"page", {COP6_DONE, COP6_LENGTH, COP6_DAMAGED, COP6_RANGE, COP6_SHORT}, 5},
     [FLAGS] = {"flags", {COP6_DONE, COP6_LENGTH, COP6_DAMAGED, COP6_RANGE}, 4},
     [HALVES] = {"halves", {COP6_DONE, COP6_LENGTH, COP6_DAMAGED, COP6_RANGE, COP6_SHORT}, 5},
     [TABLE_JUDGE] = {"table_judge", {COP6_DONE, COP6_RANGE, COP6_CLASH}, 3},
@@ -92,8 +91,7 @@ struct lent {
     uint32_t first, days;
 };
 
-static uint64_t numbers[2][COP6_PAGE(MOST) + 2];
-_Static_assert(sizeof numbers[0] >= (COP6_HALVES + 2) * sizeof numbers[0][0], "the half-hours of a day, and two numbers behind them, are no more than a page");
+static uint64_t numbers[2][COP6_HALVES + 2];
 static uint8_t bytes[2][COP6_LISTING_BYTES(MOST) + 2];
 
 static void clear_output(void) {
@@ -163,8 +161,14 @@ static void make_block(struct lent *l, uint32_t life, uint64_t *seed) {
         l->block_length = sample_next(seed) % (l->block_length + 1);
 }
 
-/* A field of a room at its edge or past it; at times with the sum that the day then has. */
-static void damage_room(struct lent *l, size_t room, uint64_t *seed) {
+/* Puts a number in both ledgers. */
+static void put_in_ledger(struct lent *l, size_t at, size_t n, uint32_t number) {
+    for (size_t i = 0; i < n; i++)
+        l->ledger[at + i] = l->other[at + i] = (uint8_t)(number >> 8 * (n - 1 - i));
+}
+
+/* At times a byte of the ledger that is wrong; a field of a room at its edge or past it; a number of days at its edge, or that the length lent is not for. */
+static void damage_ledger(struct lent *l, uint64_t *seed) {
     static const struct {
         size_t at, length;
         uint32_t number;
@@ -173,34 +177,19 @@ static void damage_room(struct lent *l, size_t room, uint64_t *seed) {
                  {ROOM_START, START_BYTES, COP6_READING_ROUND - 1},
                  {ROOM_START, START_BYTES, COP6_READING_ROUND},
                  {ROOM_VALUES, VALUE_BYTES, COP6_VALUE_ROUND - 1},
-                 {ROOM_VALUES, VALUE_BYTES, COP6_VALUE_ROUND},
-                 {ROOM_SUM, SUM_BYTES, 0},
-                 {ROOM_SUM, SUM_BYTES, COP6_HALVES * (COP6_VALUE_ROUND - 1)}};
-    size_t edge = sample_next(seed) % (sizeof edges / sizeof *edges);
-    sample_bytes(l->ledger + room + edges[edge].at, edges[edge].length, edges[edge].number);
-    if (sample_next(seed) % 2)
-        put_sum(l->ledger + room);
-}
-
-/* At times a byte of the ledger that is wrong, a room that is damaged, a day by chance, a sum that is not its day's; a number of days at its edge, or that the
- * length lent is not for. */
-static void damage_ledger(struct lent *l, uint64_t *seed) {
+                 {ROOM_VALUES, VALUE_BYTES, COP6_VALUE_ROUND}};
     static const uint32_t days[] = {0, COP6_MOST_DAYS, COP6_MOST_DAYS + 1, UINT16_MAX};
-    size_t at = sample_next(seed) % l->length, room = COP6_LEDGER_BYTES(at % l->days), chance = sample_next(seed) % 64;
+    size_t at = sample_next(seed) % l->length, chance = sample_next(seed) % 64;
     l->lent = sample_next(seed) % 32 == 0 ? sample_next(seed) % (l->length + 1) : l->length;
     if (chance < 4) {
-        sample_bytes(l->ledger + LEDGER_DAYS, DAY_BYTES, days[chance]);
-        l->lent = chance == 0 ? COP6_LEDGER_BYTES(0) : l->length;
-    } else if (chance < 8) {
         damage(l->ledger + at, seed);
+        l->other[at] = l->ledger[at];
+    } else if (chance < 10) {
+        put_in_ledger(l, COP6_LEDGER_BYTES(at % l->days) + edges[chance - 4].at, edges[chance - 4].length, edges[chance - 4].number);
     } else if (chance < 14) {
-        damage_room(l, room, seed);
-    } else if (chance < 20) {
-        put_day(l->ledger + room, seed);
-        if (chance < 16)
-            damage_sum(l->ledger + room, seed);
+        put_in_ledger(l, LEDGER_DAYS, DAY_BYTES, days[chance - 10]);
+        l->lent = chance == 10 ? COP6_LEDGER_BYTES(0) : l->length;
     }
-    memcpy(l->other, l->ledger, l->length);
 }
 
 /* ---- the calls */
@@ -282,16 +271,6 @@ static void compare_filing(struct lent *l, uint64_t *seed) {
     }
 }
 
-/* A page up to some day of the window or the one behind it: of days that are in it, of none, or of so many that only with a round of 32 bits they end there. */
-static void compare_page(const struct lent *l, uint32_t day, uint64_t *seed) {
-    uint32_t days = l->first + sample_next(seed) % (l->days + 2) - day;
-    size_t room = some_room(COP6_PAGE(0 < days && days <= MOST ? days : 1), seed);
-    clear_output();
-    uint64_t r = cop6_page(l->ledger, l->lent, day, days, numbers[0], room);
-    same_answer(PAGE, r, plain_page(l->other, l->lent, day, days, numbers[1], room));
-    same_numbers(PAGE, r);
-}
-
 static void compare_questions(const struct lent *l, uint64_t *seed) {
     uint32_t chance = sample_next(seed), day = chance % 16 == 0 ? UINT32_MAX - chance : l->first - 1 + chance % (l->days + 2);
     size_t room = some_room(COP6_IDENTIFIER, seed);
@@ -308,7 +287,6 @@ static void compare_questions(const struct lent *l, uint64_t *seed) {
     r = cop6_summary(l->ledger, l->lent, day, numbers[0], room);
     same_answer(SUMMARY, r, plain_summary(l->other, l->lent, day, numbers[1], room));
     same_numbers(SUMMARY, r);
-    compare_page(l, day, seed);
     clear_output();
     room = some_room(COP6_HALVES, seed);
     r = cop6_halves(l->ledger, l->lent, day, numbers[0], room);
@@ -334,7 +312,7 @@ static void compare_identifiers(struct lent *l, uint64_t *seed) {
             compare_block(l, seed);
             compare_filing(l, seed);
             memcpy(l->block + HEAD_IDENTIFIER, SAMPLE_METER, sizeof name);
-            l->ledger[place] = l->other[place] = (uint8_t)byte;
+            put_in_ledger(l, place, 1, (uint32_t)byte);
             compare_filing(l, seed);
         }
 }

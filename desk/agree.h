@@ -19,7 +19,6 @@ enum call {
     WINDOW,
     MISSING,
     SUMMARY,
-    PAGE,
     FLAGS,
     HALVES,
     TABLE_JUDGE,
@@ -42,11 +41,6 @@ void kept(enum call call, int refused, const void *output, size_t length);
 
 /* Bytes that come near to being right: a digit for a digit, a letter, a bit more or less. */
 void damage(uint8_t *at, uint64_t *seed);
-
-/* A day's room: one that is right, by chance; the sum that its values have; another sum, or a half-hour more or less with the sum left as it was. */
-void put_day(uint8_t *room, uint64_t *seed);
-void put_sum(uint8_t *room);
-void damage_sum(uint8_t *room, uint64_t *seed);
 
 /* The calls on tables: right ones, those at the edges of what is right, and damaged ones. */
 void compare_tables(uint64_t *seed);

@@ -15,9 +15,6 @@
 
 enum { DAYS = COP6_MOST_DAYS, LEDGER = COP6_LEDGER_BYTES(DAYS), BLOCK = COP6_BLOCK_BYTES(DAYS), DAY = 8825, ENDED = 30, READ = COP6_BLOCK_BYTES(TIMED_DAYS) };
 enum { COUNTS = 20000, CLOCKS = 20000, YEARS = 99, READS = 20, LOADS = 2000, HALF_HOUR = 1800, DAY_SECONDS = 86400, YEAR = 31557600 };
-/* The day that a summary is asked of, and with which a page ends. */
-enum { LAST = DAY - 7 };
-#define PAGE_DAYS 31
 /* 01:10 of the day that fills the store, and 2099-12-31 23:59:59, a century on. */
 enum { FULL = (TIMED_DAYS - 1) * DAY_SECONDS + 70 * 60 };
 #define CENTURY UINT32_C(3155759999)
@@ -32,7 +29,7 @@ static size_t block_length;
 /* What the calls may change: the library's, and the plain C's. */
 struct memory {
     uint8_t ledger[LEDGER], read[READ], table[COP6_TABLE_BYTES];
-    uint64_t summaries[COP6_PAGE(PAGE_DAYS)], marks[TIMED_WORDS * TIMED_DAYS];
+    uint64_t summary[COP6_SUMMARY], marks[TIMED_WORDS * TIMED_DAYS];
     uint32_t starts[TIMED_DAYS];
     uint16_t values[COP6_HALVES * TIMED_DAYS];
 };
@@ -57,10 +54,8 @@ static uint64_t library_read(struct memory *m) { return (void)m, cop6_read(block
 static uint64_t c_read(struct memory *m) { return (void)m, plain_read(block, block_length); }
 static uint64_t library_file(struct memory *m) { return cop6_file(m->ledger, LEDGER, block, block_length); }
 static uint64_t c_file(struct memory *m) { return plain_file(m->ledger, LEDGER, block, block_length); }
-static uint64_t library_summary(struct memory *m) { return cop6_summary(m->ledger, LEDGER, LAST, m->summaries, COP6_SUMMARY); }
-static uint64_t c_summary(struct memory *m) { return plain_summary(m->ledger, LEDGER, LAST, m->summaries, COP6_SUMMARY); }
-static uint64_t library_page(struct memory *m) { return cop6_page(m->ledger, LEDGER, LAST - PAGE_DAYS + 1, PAGE_DAYS, m->summaries, COP6_PAGE(PAGE_DAYS)); }
-static uint64_t c_page(struct memory *m) { return plain_page(m->ledger, LEDGER, LAST - PAGE_DAYS + 1, PAGE_DAYS, m->summaries, COP6_PAGE(PAGE_DAYS)); }
+static uint64_t library_summary(struct memory *m) { return cop6_summary(m->ledger, LEDGER, DAY - 7, m->summary, COP6_SUMMARY); }
+static uint64_t c_summary(struct memory *m) { return plain_summary(m->ledger, LEDGER, DAY - 7, m->summary, COP6_SUMMARY); }
 
 static uint64_t library_counts(struct memory *m) { return timed_counts(STORE(m), COUNTS); }
 static uint64_t c_counts(struct memory *m) { return plain_counts(STORE(m), COUNTS); }
@@ -99,7 +94,6 @@ static const struct {
     {"file it in an empty ledger", empty_ledger, library_file, c_file, 1, 400, COP6_HALVES * (DAYS - 1) + ENDED},
     {"file it again", nothing, library_file, c_file, 1, 400, 0},
     {"summary of a day", nothing, library_summary, c_summary, 1, 400, 0},
-    {"a page of " FIGURES(PAGE_DAYS) " days", nothing, library_page, c_page, 1, 400, 0},
     {"a Count", nothing, library_counts, c_counts, COUNTS, 100, (uint64_t)COUNTS * TIMED_PULSE},
     {"a Clock over one boundary", nothing, library_clocks, c_clocks, CLOCKS, 100, (uint64_t)CLOCKS * HALF_HOUR},
     {"a Clock over a year", nothing, library_years, c_years, YEARS, 20, (uint64_t)YEARS * YEAR},

@@ -82,12 +82,8 @@ static void figures(void) {
     IS(COP6_BLOCK_BYTES(1), 331);
     IS(COP6_BLOCK_BYTES(COP6_MOST_DAYS), 98881);
     IS(COP6_LEDGER_BYTES(0), 16);
-    IS(COP6_LEDGER_BYTES(1), 133);
-    IS(COP6_LEDGER_BYTES(100), 11716);
-    IS(COP6_LEDGER_BYTES(450), 52666);
-    IS(COP6_LEDGER_BYTES(COP6_MOST_DAYS), 52783);
-    IS(COP6_PAGE(1), COP6_SUMMARY);
-    IS(COP6_PAGE(COP6_MOST_DAYS), 2706);
+    IS(COP6_LEDGER_BYTES(1), 130);
+    IS(COP6_LEDGER_BYTES(COP6_MOST_DAYS), 51430);
     IS(COP6_TABLE_BYTES, 440);
     IS(COP6_WEEK_BYTES, 812);
 }
@@ -335,6 +331,30 @@ static void halves(void) {
     IS(cop6_halves(ledger, sizeof ledger, DAY, numbers, NUMBERS), ANSWER(COP6_DAMAGED, 0));
 }
 
+/* ---- the longest */
+
+/* The shortest block and the longest, read and filed whole; one of a day more is no block. */
+static void longest(void) {
+    enum { MOST = COP6_MOST_DAYS };
+    static uint8_t too_long[COP6_BLOCK_BYTES(MOST + 1)], long_block[COP6_BLOCK_BYTES(MOST)], long_ledger[COP6_LEDGER_BYTES(MOST)];
+    IS(sample_block(long_block, 0, DAY, 2, 1), COP6_BLOCK_BYTES(0));
+    IS(memcmp(long_block, "\0\0\0\x6c\1", 5), 0);
+    IS(cop6_read(long_block, COP6_BLOCK_BYTES(0)), ANSWER(COP6_DONE, 0));
+    IS(sample_block(long_block, MOST, DAY, 2, 1), sizeof long_block);
+    IS(memcmp(long_block, "\0\1\x82\x3d\1", 5), 0);
+    IS(cop6_read(long_block, sizeof long_block), ANSWER(COP6_DONE, MOST));
+    memcpy(too_long, long_block, sizeof long_block);
+    sample_bytes(too_long, LENGTH_BYTES, sizeof too_long - LENGTH_BYTES);
+    memcpy(too_long + COP6_BLOCK_BYTES(MOST), long_block + COP6_BLOCK_BYTES(MOST - 1), RECORD_BYTES);
+    IS(cop6_read(too_long, sizeof too_long), ANSWER(COP6_NO_BLOCK, 0));
+    IS(cop6_header(long_block, sizeof long_block, numbers, COP6_HEADER), ANSWER(COP6_DONE, MOST));
+    IS(numbers[COP6_HEAD_DAYS], MOST);
+    IS(cop6_open(long_ledger, sizeof long_ledger, METER, COP6_IDENTIFIER, DAY - MOST + 1, MOST), ANSWER(COP6_DONE, 0));
+    IS(cop6_file(long_ledger, sizeof long_ledger, long_block, sizeof long_block), ANSWER(COP6_DONE, (MOST - 1) * COP6_HALVES + 2));
+    IS(cop6_file(long_ledger, sizeof long_ledger, long_block, sizeof long_block), ANSWER(COP6_DONE, 0));
+    IS(cop6_differs(long_ledger, sizeof long_ledger, long_block, sizeof long_block, numbers, COP6_DIFFERENCE), ANSWER(COP6_DONE, 0));
+}
+
 int main(void) {
     figures();
     days();
@@ -355,15 +375,7 @@ int main(void) {
     differs();
     differs_in_days();
     differs_refused();
-    sums();
-    greatest_sum();
-    sums_damaged();
-    days_damaged();
-    values_damaged();
-    pages();
-    pages_refused();
     longest();
-    longest_page();
     tables_judged();
     tables_clash();
     tables_full();

@@ -53,19 +53,6 @@ void differs(void);
 void differs_in_days(void);
 void differs_refused(void);
 
-/* The cases of the stored sums, of ledgers that these find damaged, and of cop6_page. */
-void sums(void);
-void greatest_sum(void);
-void sums_damaged(void);
-void days_damaged(void);
-void values_damaged(void);
-void pages(void);
-void pages_refused(void);
-
-/* The cases of the longest block, ledger and page. */
-void longest(void);
-void longest_page(void);
-
 /* The cases of cop6_table_judge, cop6_table_rate and cop6_table_week. */
 void tables_judged(void);
 void tables_clash(void);

@@ -34,8 +34,8 @@ extern "C" {
 enum {
     COP6_DONE = 0,          /* done */
     COP6_LENGTH = 4,        /* the ledger has another length than its days need */
-    COP6_DAMAGED = 5,       /* the ledger has a field out of range, room that should be zero and isn't, or a stored sum that is not its day's */
-    COP6_RANGE = 6,         /* an opening value out of range; a day outside the window, a page of no day; a table out of range, or a time or day asked of it */
+    COP6_DAMAGED = 5,       /* the ledger has a field out of range, or room that should be zero and isn't */
+    COP6_RANGE = 6,         /* an opening value out of range; a day outside the window; a table out of range, or a time or day asked of it */
     COP6_SHORT = 7,         /* the output is too short; carries how many elements are needed */
     COP6_NO_BLOCK = 8,      /* under COP6_BLOCK_BYTES(0) bytes, length or version wrong, not whole records, over COP6_MOST_DAYS of them */
     COP6_FIELD = 9,         /* a wrong character, an unreal date or time, low flag bits set; carries the offset of the first such field */
@@ -53,7 +53,7 @@ enum {
 #define COP6_READING_ROUND 100000000           /* readings are below it: start and advances are summed modulo this */
 #define COP6_VALUE_ROUND 10000                 /* half-hour values and advances are below it */
 #define COP6_BLOCK_BYTES(days) (112 + 219 * (size_t)(days)) /* day record i begins at COP6_BLOCK_BYTES(i) */
-#define COP6_LEDGER_BYTES(days) (16 + 117 * (size_t)(days)) /* what cop6_ledger_length answers, for an array of fixed length */
+#define COP6_LEDGER_BYTES(days) (16 + 114 * (size_t)(days)) /* what cop6_ledger_length answers, for an array of fixed length */
 #define COP6_LISTING_BYTES(days) (30 + 32 * (size_t)(days)) /* also enough for the text of a refusal */
 #define COP6_TABLE_BYTES 440                   /* of a tariff switching table */
 #define COP6_WEEK_BYTES 812                    /* enough for the text of every table's week */
@@ -145,12 +145,6 @@ enum {
     COP6_SUMMARY  /* how many numbers these are */
 };
 uint64_t cop6_summary(const uint8_t *ledger, size_t length, uint32_t day, uint64_t *out, size_t room);
-
-/* A page: the summaries of so many days from a day on, the oldest first, COP6_SUMMARY numbers each, one behind the other. The ledger is judged once, so a page
- * costs little more than one summary. 0 carries 0; 4; 5; 6 where a day of it lies outside the window, or `days` is 0; 7 carries COP6_PAGE(days), where `room`
- * is less. Elements past these stay as they were. */
-#define COP6_PAGE(days) (COP6_SUMMARY * (size_t)(days))
-uint64_t cop6_page(const uint8_t *ledger, size_t length, uint32_t day, uint32_t days, uint64_t *out, size_t room);
 
 /* The daily flags of a day. 0 carries them, and 0 where fewer than COP6_HALVES half-hours are held: flags are held of a whole day only; 4; 5; 6. */
 #define COP6_FLAG_POWER 0x80u /* power was lost */

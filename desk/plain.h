@@ -1,17 +1,16 @@
 /* Every call of the library in plain C, written from the rules and layouts alone: the comparison holds the two against each other, stand_in.c stands in for the
- * archive by it. The benchmark measures the library against its reader, filing, summary and page, and against the same loops of a recorder's events and reads,
- * and of an outstation's with a table, as crates/timing has. */
+ * archive by it. The benchmark measures the library against its reader, filing and summary, and against the same loops of a recorder's events and reads, and of
+ * an outstation's with a table, as crates/timing has. */
 #ifndef PLAIN_H
 #define PLAIN_H
 
 #include <stddef.h>
 #include <stdint.h>
 
-/* As cop6.h says of the call of the same name. plain.c has the four that are timed, plain_tariff.c those on a table, plain_desk.c the others. */
+/* As cop6.h says of the call of the same name. plain.c has the three that are timed, plain_tariff.c those on a table, plain_desk.c the others. */
 uint64_t plain_read(const uint8_t *block, size_t length);
 uint64_t plain_file(uint8_t *ledger, size_t length, const uint8_t *block, size_t block_length);
 uint64_t plain_summary(const uint8_t *ledger, size_t length, uint32_t day, uint64_t *out, size_t room);
-uint64_t plain_page(const uint8_t *ledger, size_t length, uint32_t day, uint32_t days, uint64_t *out, size_t room);
 uint64_t plain_listing(const uint8_t *block, size_t length, uint8_t *out, size_t room);
 uint64_t plain_header(const uint8_t *block, size_t length, uint64_t *out, size_t room);
 uint32_t plain_day(uint32_t yymmdd);

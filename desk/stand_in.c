@@ -20,9 +20,6 @@ uint64_t cop6_identifier(const uint8_t *ledger, size_t length, uint8_t *out, siz
 uint64_t cop6_window(const uint8_t *ledger, size_t length) { return plain_window(ledger, length); }
 uint64_t cop6_missing(const uint8_t *ledger, size_t length, uint32_t day) { return plain_missing(ledger, length, day); }
 uint64_t cop6_summary(const uint8_t *ledger, size_t length, uint32_t day, uint64_t *out, size_t room) { return plain_summary(ledger, length, day, out, room); }
-uint64_t cop6_page(const uint8_t *ledger, size_t length, uint32_t day, uint32_t days, uint64_t *out, size_t room) {
-    return plain_page(ledger, length, day, days, out, room);
-}
 uint64_t cop6_flags(const uint8_t *ledger, size_t length, uint32_t day) { return plain_flags(ledger, length, day); }
 uint64_t cop6_halves(const uint8_t *ledger, size_t length, uint32_t day, uint64_t *out, size_t room) { return plain_halves(ledger, length, day, out, room); }
 uint64_t cop6_table_judge(const uint8_t *table, size_t length) { return plain_table_judge(table, length); }

@@ -6,7 +6,6 @@
 #include "files.h"
 #include "page.h"
 #include "say.h"
-#include "summaries.h"
 
 #include <inttypes.h>
 #include <stdio.h>
@@ -63,10 +62,9 @@ static int ask(char **args, int count, void (*answer)(const struct span *)) {
 /* ---- summary */
 
 static void summary(const struct span *s) {
-    struct summaries all;
-    begin_summaries(&all, s->ledger.at, s->ledger.length, s->last);
     for (uint32_t day = s->first; day <= s->last; day++) {
-        const uint64_t *x = summary_of(&all, day);
+        uint64_t x[COP6_SUMMARY] = {0};
+        cop6_summary(s->ledger.at, s->ledger.length, day, x, COP6_SUMMARY);
         if (x[COP6_HELD])
             printf("%06" PRIu32 " %02" PRIu64 " %08" PRIu64 " %06" PRIu64 " %02" PRIu64 " %02" PRIu64 "\n", cop6_date(day), x[COP6_K], x[COP6_START],
                    x[COP6_ADVANCE], x[COP6_REVERSE], x[COP6_LEVEL2]);
@@ -169,18 +167,17 @@ int show_command(char **args, int count) { return ask(args, count, show); }
 /* ---- values */
 
 static void values(const struct span *s) {
-    struct summaries all;
-    begin_summaries(&all, s->ledger.at, s->ledger.length, s->last);
     puts("date,begins,start,value,advance,wh,reverse,level2");
     for (uint32_t day = s->first; day <= s->last; day++) {
-        uint64_t half[COP6_HALVES] = {0}, start = summary_of(&all, day)[COP6_START];
+        uint64_t half[COP6_HALVES] = {0}, x[COP6_SUMMARY] = {0};
+        cop6_summary(s->ledger.at, s->ledger.length, day, x, COP6_SUMMARY);
         uint32_t held = COP6_CARRIED(cop6_halves(s->ledger.at, s->ledger.length, day, half, COP6_HALVES));
         for (uint32_t j = 0; j < held; j++) {
             uint32_t advance = COP6_HALF_ADVANCE(half[j]);
             print_date(day);
             putchar(',');
             print_date(day);
-            printf("T%02" PRIu32 ":%02" PRIu32 ":00Z,%" PRIu64 ",%" PRIu32 ",%" PRIu32 ",%" PRIu32 ",%d,%d\n", j / 2, j % 2 * 30, start,
+            printf("T%02" PRIu32 ":%02" PRIu32 ":00Z,%" PRIu64 ",%" PRIu32 ",%" PRIu32 ",%" PRIu32 ",%d,%d\n", j / 2, j % 2 * 30, x[COP6_START],
                    COP6_HALF_VALUE(half[j]), advance, advance * 10, COP6_HALF_REVERSE(half[j]), COP6_HALF_LEVEL2(half[j]));
         }
     }

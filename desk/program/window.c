@@ -1,13 +1,12 @@
 /* The window of a ledger in numbers, and the scale of its shades. */
 #include "window.h"
 
-#include "summaries.h"
-
-static int take_day(struct summaries *all, uint32_t number, struct day *d) {
-    const uint64_t *x = summary_of(all, number);
-    uint64_t halves = cop6_halves(all->ledger, all->length, number, d->half, COP6_HALVES);
-    uint64_t flags = cop6_flags(all->ledger, all->length, number);
-    if (COP6_ANSWER(all->answer) != COP6_DONE || COP6_ANSWER(halves) != COP6_DONE || COP6_ANSWER(flags) != COP6_DONE)
+static int take_day(const uint8_t *ledger, size_t length, uint32_t number, struct day *d) {
+    uint64_t x[COP6_SUMMARY];
+    uint64_t summary = cop6_summary(ledger, length, number, x, COP6_SUMMARY);
+    uint64_t halves = cop6_halves(ledger, length, number, d->half, COP6_HALVES);
+    uint64_t flags = cop6_flags(ledger, length, number);
+    if (COP6_ANSWER(summary) != COP6_DONE || COP6_ANSWER(halves) != COP6_DONE || COP6_ANSWER(flags) != COP6_DONE)
         return -1;
     d->number = number;
     d->held = x[COP6_HELD] != 0;
@@ -38,18 +37,16 @@ static uint32_t choose_step(const struct window *w) {
 }
 
 int take_window(const uint8_t *ledger, size_t length, struct window *w) {
-    struct summaries all;
     uint64_t r = cop6_window(ledger, length);
     if (COP6_ANSWER(r) != COP6_DONE || COP6_ANSWER(cop6_identifier(ledger, length, (uint8_t *)w->identifier, COP6_IDENTIFIER)) != COP6_DONE)
         return -1;
     w->identifier[COP6_IDENTIFIER] = '\0';
     w->days = COP6_COUNT(r);
-    begin_summaries(&all, ledger, length, COP6_FIRST(r) + w->days - 1);
     w->held = w->largest = w->largest_i = w->largest_j = 0;
     w->advance = 0;
     for (uint32_t i = 0; i < w->days; i++) {
         struct day *d = &w->day[i];
-        if (take_day(&all, COP6_FIRST(r) + i, d) != 0)
+        if (take_day(ledger, length, COP6_FIRST(r) + i, d) != 0)
             return -1;
         w->held += d->k;
         w->advance += d->advance;

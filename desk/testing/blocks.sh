@@ -96,21 +96,9 @@ flat() { # TIME DATE..
     done | block $meter "$time" $#
 }
 
-# Seventy days that join, from 240101 on: each begins where the one before ended, and the last was read in its 26th half-hour.
-seventy_days() {
-    local i j start energy=0
-    for ((j = 0; j < halves; j++)); do energy=$((energy + 17 * (1 + (j * 5 + 3) % 11))); done
-    for ((i = 69; i >= 0; i--)); do
-        start=$((471100 + i * energy))
-        # shellcheck disable=SC2046
-        record "$(date -u -d "2024-01-01 +$i days" +%y%m%d)" "$(printf %08d $start)" 00 $none $none $(values $((start % value_round)) 17 0 $((i < 69 ? halves : 25)))
-    done | block $meter 240310124000 70
-}
-
 large_blocks() {
     three_days 80 | block $meter 240301121500 3 >"$blocks/three_days"
     three_days 60 | block $meter 240301121500 3 >"$blocks/differs_flags"
-    seventy_days >"$blocks/seventy_days"
     local registers=00475800123400090512345624020107 rates=000001000022000333004444055555666666077777008888
     three_days 80 | block $meter 240301121500 3 $registers$rates >"$blocks/registers"
     one_day 240229020500 00471100 00 $none $none 1101 1103 1103 1106 >"$blocks/small_advances"

@@ -203,43 +203,19 @@ pages_of_tables() {
     rm late.ledger
 }
 
-# Summaries of more days than the desk asks for at once: as the block of these days is listed, the oldest first.
-many_summaries() {
-    local days
-    "${desk[@]}" open many.ledger $meter 240101 70
-    "${desk[@]}" file many.ledger $b/seventy_days >/dev/null
-    "${desk[@]}" list $b/seventy_days | tail -n +2 | tac >"$room/lines"
-    "${desk[@]}" summary many.ledger >"$room/out"
-    holds 'the summary of 70 days' cmp "$room/out" "$room/lines"
-    for days in 31 32 62 63; do
-        "${desk[@]}" summary many.ledger 240103 "$(date -u -d "2024-01-02 +$days days" +%y%m%d)" >"$room/out"
-        holds "the summary of $days of them" cmp "$room/out" <(sed -n "3,$((2 + days))p" "$room/lines")
-    done
-    rm many.ledger
-}
-
-# One byte of a ledger is another: every command refuses it, and leaves it.
-damaged_at() { # PLACE BYTE
-    cp n.ledger damaged.ledger
-    hex "$2" | dd of=damaged.ledger bs=1 seek="$1" conv=notrunc status=none
-    cp damaged.ledger as_it_was
-    expect damaged summary damaged.ledger
-    expect file_in_damaged file damaged.ledger $b/three_days $b/at_0110
-    expect differ_in_damaged differ damaged.ledger $b/three_days
-    expect page_damaged page damaged.ledger
-    holds 'a damaged ledger stays as it was' cmp damaged.ledger as_it_was
-}
-
 damaged_ledgers() {
-    # room that should be zero; and of the second day's sum, 300, the last byte, which is also its room's
-    damaged_at $(($(wc -c <n.ledger) / 2)) ff
-    damaged_at $(($(ledger_bytes 2) - 1)) 2d
     head -c -1 n.ledger >short.ledger
+    cp n.ledger damaged.ledger
+    hex ff | dd of=damaged.ledger bs=1 seek=$(($(wc -c <n.ledger) / 2)) conv=notrunc status=none
     : >empty.ledger
-    for ledger in short empty; do
+    cp damaged.ledger as_it_was
+    for ledger in short damaged empty; do
         expect "$ledger" summary $ledger.ledger
         expect "file_in_$ledger" file $ledger.ledger $b/three_days $b/at_0110
     done
+    expect differ_in_damaged differ damaged.ledger $b/three_days
+    expect page_damaged page damaged.ledger
+    holds 'a damaged ledger stays as it was' cmp damaged.ledger as_it_was
     expect no_ledger summary no.ledger
     expect no_ledger_to_file_in file no.ledger $b/at_0110
     expect file_in_folder file . $b/at_0110
@@ -296,7 +272,7 @@ standard() {
 # The longest window that a ledger may have, up to the last day of all.
 longest() {
     expect open_longest open longest.ledger $meter "$(last_window)" "$most_days"
-    holds 'a ledger of 451 days has 52,783 bytes' [ "$(wc -c <longest.ledger)" = 52783 ]
+    holds 'a ledger of 451 days has 51,430 bytes' [ "$(wc -c <longest.ledger)" = 51430 ]
     expect longest_missing missing longest.ledger
     rm longest.ledger
 }
@@ -322,7 +298,6 @@ suite() { # WHAT [PART]
         bringing
         weeks
         pages_of_tables
-        many_summaries
         damaged_ledgers
         leftovers
         standard

@@ -33,7 +33,7 @@ impl Answer {
         Answer { number, carried: 0 }
     }
 
-    /// A refusal that carries an offset (9), or the bytes or numbers needed (7).
+    /// A refusal that carries an offset (9) or the bytes needed (7).
     pub fn refused_with(number: u32, carried: usize) -> Answer {
         Answer { number, carried: u32::try_from(carried).unwrap_or(u32::MAX) }
     }

@@ -4,10 +4,8 @@
 mod adjusting;
 mod limits;
 mod names;
-mod pages;
 mod phases;
 mod sides;
-mod sums;
 mod switching;
 mod tables;
 
@@ -22,10 +20,8 @@ use crate::script::{self, Player};
 use adjusting::Adjusting;
 use limits::Limits;
 use names::Names;
-use pages::Pages;
 use phases::Phases;
 use std::collections::{BTreeMap, BTreeSet};
-use sums::Sums;
 use switching::Switching;
 use tables::Tables;
 
@@ -40,7 +36,7 @@ const ASKED_DAY: &[u32] = &[DONE, WRONG_LENGTH, DAMAGED, OUT_OF_RANGE];
 
 /// Each call and the answer numbers that the rules allow it. Opening is always lent the right
 /// length by a script, so its refusal of a wrong one can't be reached there.
-const ALLOWED: [(&str, &[u32]); 26] = [
+const ALLOWED: [(&str, &[u32]); 25] = [
     ("setup", &[DONE, WRONG_LENGTH, OUT_OF_RANGE]),
     ("count", &[DONE, WRONG_POWER, TOO_MANY_UNITS, WRONG_LENGTH, DAMAGED]),
     ("clock", TIMED),
@@ -65,7 +61,6 @@ const ALLOWED: [(&str, &[u32]); 26] = [
     ("deliver", FILING),
     ("summary", ASKED_DAY),
     ("missing", ASKED_DAY),
-    ("page", &[DONE, WRONG_LENGTH, DAMAGED, OUT_OF_RANGE, OUTPUT_SHORT]),
     ("week", &[DONE, OUT_OF_RANGE, TABLE_CLASH]),
 ];
 
@@ -163,8 +158,6 @@ struct Passed {
     switching: Switching,
     adjusting: Adjusting,
     phases: Phases,
-    sums: Sums,
-    pages: Pages,
 }
 
 impl Passed {
@@ -182,8 +175,6 @@ impl Passed {
             self.switching.add(&before, line, &answer, &mut player);
             self.adjusting.add(&before, line, &answer, &mut player);
             self.phases.add(&before, line, &answer, &mut player);
-            self.sums.add(line, &answer, &player);
-            self.pages.add(line, &answer, &player);
             let word = line.split(|&byte| byte == b' ').next().unwrap_or_default();
             if word == b"count" {
                 self.add_count(&before, line, &answer);
@@ -235,9 +226,7 @@ impl Passed {
         let switching = self.switching.told();
         let adjusting = self.adjusting.told();
         let phases = self.phases.told();
-        let sums = self.sums.told();
-        let pages = self.pages.told();
-        let told = limits && names && tables && switching && adjusting && phases && sums && pages;
+        let told = limits && names && tables && switching && adjusting && phases;
         over == all && read == calendar::DAYS && filled == weights && told
     }
 }

@@ -18,14 +18,12 @@ mod ordinary;
 mod outages;
 mod phases;
 mod round;
-mod sums;
 mod tables;
 mod weights;
 mod writer;
 
 pub use characters::EDGES;
 pub use round::round;
-pub use sums::{Room, WINDOWS};
 #[cfg(test)]
 pub use tables::random_entries;
 pub use weights::WEIGHTS;

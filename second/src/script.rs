@@ -153,11 +153,10 @@ impl Player {
                 print(ledger::file(&mut self.ledger, kept))
             }
             [b"summary", d] => {
-                let summary = ledger::summary(&self.ledger, day(d)?);
-                Some(format!("{} {}", summary.answer, print_numbers(&summary.row())))
+                let s = ledger::summary(&self.ledger, day(d)?);
+                let (answer, held) = (s.answer, u8::from(s.held));
+                Some(format!("{answer} {held} {} {} {} {} {}", s.half_hours, s.start, s.sum, s.reverse, s.level2))
             }
-            [b"page", d, n] => self.page(day(d)?, number_32_bits(n)?, ledger::MOST_NUMBERS),
-            [b"page", d, n, room] => self.page(day(d)?, number_32_bits(n)?, number_up_to(room, ledger::MOST_NUMBERS)?),
             [b"missing", d] => {
                 let m = ledger::missing(&self.ledger, day(d)?);
                 Some(format!("{} {} {}", m.answer, m.first, m.count))
@@ -297,7 +296,7 @@ impl Player {
             u64::from(r.loaded),
             phases(r.phase),
         ]);
-        print_numbers(&numbers)
+        numbers.iter().map(u64::to_string).collect::<Vec<String>>().join(" ")
     }
 
     fn hex(&mut self, word: Word) -> Option<String> {
@@ -326,17 +325,6 @@ impl Player {
         let length = if in_range { ledger::bytes_for(days as usize) } else { 0 };
         self.ledger = vec![0; length];
         print(ledger::open(identifier, first, days, &mut self.ledger))
-    }
-
-    /// The answer, and behind it the rows where there are any.
-    fn page(&self, day: u64, days: u64, room: usize) -> Option<String> {
-        let mut output = vec![0; room];
-        let answer = ledger::page(&self.ledger, day, days, &mut output);
-        if answer.number != DONE {
-            return print(answer);
-        }
-        let rows = output.get(..ledger::numbers_for(days as usize))?;
-        Some(format!("{} {}", print(answer)?, print_numbers(rows)))
     }
 }
 

@@ -9,9 +9,7 @@ mod history;
 mod hold;
 mod names;
 mod order;
-mod pages;
 mod phases;
-mod sums;
 mod switching;
 mod tariff;
 mod weights;
@@ -213,9 +211,8 @@ fn the_lengths_of_the_pages() {
     assert_eq!(block::MOST_BYTES, 98_881);
     assert_eq!(listing::MOST_BYTES, 22_231);
     assert_eq!(ledger::bytes_for(0), 16);
-    assert_eq!(ledger::bytes_for(1), 133);
-    assert_eq!(ledger::MOST_BYTES, 52_783);
-    assert_eq!(ledger::MOST_NUMBERS, 2_706);
+    assert_eq!(ledger::bytes_for(1), 130);
+    assert_eq!(ledger::MOST_BYTES, 51_430);
     let lengths = [(1_008, 21, 63), (4_848, 101, 303), (12_048, 251, 753), (21_648, 451, 1_353)];
     for (class, (values, starts, marks)) in Class::ALL.into_iter().zip(lengths) {
         assert_eq!(class.store_length(), StoreLength { values, starts, marks });

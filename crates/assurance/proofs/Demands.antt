@@ -14,11 +14,10 @@ use Rattle.judgement.specs.Given.{given}
 use Rattle.writer.specs.Send.{write_of}
 use Rattle.writer.proofs.Sent.{refused_keeps, sent_bytes, sent_reads}
 use Rattle.writer.proofs.Refusals.{send_carries, send_answer, write_answer}
-use Rattle.ledger.proofs.Answers.{open_answer_holds, open_leaves, opened_well, summary_answer, summary_empty, missing_answer, missing_empty, page_answer_holds, page_leaves, page_carries}
-use Rattle.ledger.proofs.Pages.{page_done, row_at}
+use Rattle.ledger.proofs.Answers.{open_answer_holds, open_leaves, opened_well, summary_answer, summary_empty, missing_answer, missing_empty}
 use Rattle.filing.proofs.Answers.{by_checks, refused_same, refused_carries, differs_number, tells_nothing, no_difference_lem, differs_12}
 use Rattle.lines.proofs.Laws.{listing_stays}
-use Rattle.desk.proofs.ForC.{apart, header_gives, differs_gives, identifier_gives, summary_gives, page_gives, halves_gives, missing_number_lem, flags_number_lem, window_number_lem, day_again, date_again}
+use Rattle.desk.proofs.ForC.{apart, header_gives, differs_gives, identifier_gives, summary_gives, halves_gives, missing_number_lem, flags_number_lem, window_number_lem, day_again, date_again}
 use Rattle.store.specs.Store.{Store}
 use Rattle.recorder.specs.declared.SetUp.{SetUp}
 use Rattle.recorder.specs.declared.Event.{Event}
@@ -54,7 +53,6 @@ for_c = record {
   differs = differs_gives;
   identifier = identifier_gives;
   summary = summary_gives;
-  page = page_gives;
   halves = halves_gives;
   listing = listing_stays;
   missing = missing_number_lem;
@@ -74,7 +72,6 @@ demand_1 = record {
   sends = refused_keeps;
   opens = open_leaves;
   files = refused_same;
-  pages = page_leaves;
   summaries = summary_empty;
   missings = missing_empty;
   differs = tells_nothing;
@@ -87,7 +84,6 @@ demand_1 = record {
   read_carries = read_carries;
   send_carries = send_carries;
   file_carries = refused_carries;
-  page_carries = page_carries;
   set_up_answer_holds = set_up_answer_holds;
   step_answer_holds = step_answer_holds;
   read_answer_holds = read_answer_holds;
@@ -98,9 +94,6 @@ demand_1 = record {
   file_answer_holds = by_checks;
   summary_answer = summary_answer;
   missing_answer = missing_answer;
-  page_answer_holds = page_answer_holds;
-  page_days = page_done;
-  page_rows = row_at;
   causes = causes;
   differs_answer = differs_number;
   differs_12 = differs_12;

@@ -1,6 +1,6 @@
 -- The three demands, and after them the complete days of a class, each as the statement that is proved of it (proofs/Demands.antt): over `set_up`, `step`, `read_of`,
 -- `write_of`, `open_of`, `file_of`, `parse` and the others named below, the definitions that the contracts of the code cite, so that it holds of the code.
-use Rattle.std.specs.Prelude.{ℕ, ◌+◌, ◌*◌, ◌≤◌, ◌<◌, min, ◌≡◌, true, cond, ◌↔◌, eqb, length, get_or}
+use Rattle.std.specs.Prelude.{ℕ, ◌≤◌, min, ◌≡◌, true, cond, ◌↔◌, eqb, length}
 use mathlib.Core.List.{List, Memᴰ}
 use Rattle.std.proofs.lemmas.List.Edits.{sets}
 use Rattle.laws.specs.Checks.{first_failing}
@@ -19,7 +19,6 @@ use Rattle.fields.specs.Views.{header_in}
 use Rattle.ledger.specs.Judged.{judged}
 use Rattle.ledger.specs.Open.{open_checks, open_of}
 use Rattle.ledger.specs.Asked.{asked_checks, no_summary, summary_of, no_missing, missing_of}
-use Rattle.ledger.specs.Page.{summary_numbers, summary_row, rows_of, page_judged, page_refusals, page_of}
 use Rattle.filing.specs.File.{file_checks, file_of}
 use Rattle.rooms.specs.View.{view_of}
 use Rattle.filing.specs.Differs.{no_difference, differs_of}
@@ -50,7 +49,7 @@ Refused number = number ≡ 0 → ⊥
 -- Demand 1: whatever is given, a refusal changes nothing, and is given only with cause. (That every call answers is its contract, which asks nothing.)
 pub record Demand1 : Type 0 where
   -- a refusal hands back the recorder given, and store, ledger and output hold the bytes they held: set-up, events, reads, the writer (`write_of` is `send_of` of given
-  -- days), opening, filing, a page. A refused set-up gives the blank recorder; a read (`read_back`: `read_of` with the recorder) hands back the one that it was given, refused or not
+  -- days), opening, filing. A refused set-up gives the blank recorder; a read (`read_back`: `read_of` with the recorder) hands back the one that it was given, refused or not
   pub set_up_holds : (s : SetUp) (x : Store) → Refused (set_up s x).answer → (set_up s x).after ≡ record { recorder = blank; store = x }
   pub steps : (x : Mem) (e : Event) → Refused (step x e).answer → (step x e).after ≡ x
   pub reads : (asked : ℕ) (x : Mem) (out : List ℕ) → Refused (read_of asked x out).answer.number → (read_of asked x out).out ≡ out
@@ -59,7 +58,6 @@ pub record Demand1 : Type 0 where
   pub sends : (h : Header) (n : ℕ) (from : Source) (v s m out : List ℕ) → Refused (send_of h n from v s m out).answer.number → (send_of h n from v s m out).out ≡ out
   pub opens : (l id : List ℕ) (first days : ℕ) → Refused (open_of l id first days).answer → (open_of l id first days).ledger ≡ l
   pub files : (l b : List ℕ) → Refused (file_of l b).answer.number → (file_of l b).ledger ≡ l
-  pub pages : (l : List ℕ) (day days : ℕ) (out : List ℕ) → Refused (page_of l day days out).answer.answer → (page_of l day days out).out ≡ out
   -- a question that is refused tells nothing: a day's summary, what is missing of it, where a block differs (nor does that of a block that would be filed)
   pub summaries : (l : List ℕ) (day : ℕ) → Refused (summary_of l day).answer → summary_of l day ≡ no_summary (summary_of l day).answer
   pub missings : (l : List ℕ) (day : ℕ) → Refused (missing_of l day).answer → missing_of l day ≡ no_missing (missing_of l day).answer
@@ -70,14 +68,12 @@ pub record Demand1 : Type 0 where
   -- the blank recorder is refused by every call with 5
   pub blank_step : (x : Store) (e : Event) → (step (record { recorder = blank; store = x }) e).answer ≡ 5
   pub blank_read : (asked : ℕ) (x : Store) (out : List ℕ) → (read_of asked (record { recorder = blank; store = x }) out).answer.number ≡ 5
-  -- what an answer carries: of an event and a set-up nothing, of a read and the writer the block's bytes with 0 and 7, of a refused filing the offset with 9, of a page
-  -- the numbers needed with 7
+  -- what an answer carries: of an event and a set-up nothing, of a read and the writer the block's bytes with 0 and 7, of a refused filing the offset with 9
   pub step_carries : (x : Mem) (e : Event) → (step x e).carried ≡ 0
   pub set_up_carries : (s : SetUp) (x : Store) → (set_up s x).carried ≡ 0
   pub read_carries : (asked : ℕ) (x : Mem) (out : List ℕ) → let a = (read_of asked x out).answer in a.carried ≡ block_carried a.number (days_sent asked x.recorder)
   pub send_carries : (h : Header) (n : ℕ) (from : Source) (v s m out : List ℕ) → let a = (send_of h n from v s m out).answer in a.carried ≡ block_carried a.number n
   pub file_carries : (l b : List ℕ) → let a = (file_of l b).answer in Refused a.number → a.carried ≡ cond (eqb a.number 9) (answer_of (parse b)).carried 0
-  pub page_carries : (l : List ℕ) (day days : ℕ) (out : List ℕ) → let a = (page_of l day days out).answer in a.carried ≡ cond (eqb a.answer 7) (summary_numbers * days) 0
   -- every call answers by the table (docs/ANSWERS.md): its answer is that of the first check that fails, in the table's order. (The reader's is `parse`.) A read and
   -- the writer refuse the block itself exactly where the rules say so: 5 where store days to be sent are out of range, or where the reader would refuse it
   pub set_up_answer_holds : (s : SetUp) (x : Store) → (set_up s x).answer ≡ first_failing (set_up_checks s (length x.values) (length x.starts) (length x.marks))
@@ -93,11 +89,6 @@ pub record Demand1 : Type 0 where
   pub file_answer_holds : (l b : List ℕ) → (file_of l b).answer.number ≡ first_failing (file_checks l b)
   pub summary_answer : (l : List ℕ) (day : ℕ) → (summary_of l day).answer ≡ first_failing (asked_checks l day)
   pub missing_answer : (l : List ℕ) (day : ℕ) → (missing_of l day).answer ≡ first_failing (asked_checks l day)
-  pub page_answer_holds : (l : List ℕ) (day days : ℕ) (out : List ℕ) → (page_of l day days out).answer.answer ≡ first_failing (page_refusals l day days (length out))
-  -- a page that is done has the summaries of its days, all of which are done, one behind the other
-  pub page_days : (l : List ℕ) (day days j : ℕ) → page_judged l day days ≡ 0 → j < days → (summary_of l (day + j)).answer ≡ 0
-  pub page_rows : (l : List ℕ) (day days j q : ℕ) → j < days → q < summary_numbers
-      → get_or (rows_of l day days) (summary_numbers * j + q) 0 ≡ get_or (summary_row (summary_of l (day + j))) q 0
   -- a block that the reader takes is refused by a good ledger for another meter and for what differs, and for nothing else. Where it
   -- differs is refused as filing is, but for 12, which it tells of
   pub causes : (l b : List ℕ) (n : ℕ) (vs : List ℕ) → judged l ≡ 0 → parse b ≡ fields n vs → Causes l b

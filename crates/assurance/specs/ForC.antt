@@ -13,23 +13,21 @@ use Rattle.ledger.specs.Rooms.{slot}
 use Rattle.ledger.specs.Judged.{judged}
 use Rattle.ledger.specs.Open.{open_of}
 use Rattle.ledger.specs.Asked.{asked, summary_of, missing_of}
-use Rattle.ledger.specs.Page.{page_judged, summary_row, rows_of}
 use Rattle.fields.specs.Views.{header_in}
 use Rattle.filing.specs.File.{read_of}
 use Rattle.filing.specs.Differs.{differs_of}
 use Rattle.lines.specs.Listing.{shown, shown_length}
 use Rattle.desk.specs.Numbers.{answer_place, one_number, answer_in, carried_in, first_and_count, missing_number, flags_number, window_number, day_or_none}
-use Rattle.desk.specs.Given.{Gives, header_row, give_header, difference_row, give_differs, give_identifier, give_summary, give_page, half_number, give_halves}
+use Rattle.desk.specs.Given.{Gives, header_row, give_header, difference_row, give_differs, give_identifier, summary_row, give_summary, half_number, give_halves}
 
 pub record ForC : Type 0 where
   -- every function: an answer and what it carries are told apart again. (cop6_read, cop6_open and cop6_file give those of the reader, of opening and of filing)
   pub apart : (a c : ℕ) → c < answer_place → (answer_in (one_number a c) ≡ a) × (carried_in (one_number a c) ≡ c)
-  -- cop6_header, cop6_differs, cop6_identifier, cop6_summary, cop6_page, cop6_halves: the answer, the row that is given, and what is carried with it
+  -- cop6_header, cop6_differs, cop6_identifier, cop6_summary, cop6_halves: the answer, the row that is given, and what is carried with it
   pub header : (b out : List ℕ) → Gives (give_header b out) out (read_of b) (header_row (header_in b) (read_of b).carried) (read_of b).carried
   pub differs : (l b out : List ℕ) → let d = differs_of l b in Gives (give_differs l b out) out (answer d.number d.carried) (difference_row d) d.carried
   pub identifier : (l out : List ℕ) → Gives (give_identifier l out) out (answer (judged l) 0) (table ident_length (letter_of l)) 0
   pub summary : (l : List ℕ) (d : ℕ) (out : List ℕ) → Gives (give_summary l d out) out (answer (summary_of l d).answer 0) (summary_row (summary_of l d)) 0
-  pub page : (l : List ℕ) (d n : ℕ) (out : List ℕ) → Gives (give_page l d n out) out (answer (page_judged l d n) 0) (rows_of l d n) 0
   pub halves : (l : List ℕ) (d : ℕ) (out : List ℕ) → let y = slot l (d - first_of l) in
       Gives (give_halves l d out) out (answer (asked l d) 0) (table halves_of_day (half_number y)) (count y)
   -- cop6_listing: a text that has no room is not begun, and its length is 0

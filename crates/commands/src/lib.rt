@@ -70,8 +70,6 @@ const MARKS: u64 = memory::MARKS as u64;
 
 const LEDGERS: u64 = ledger::LONGEST as u64;
 
-const PAGES: u64 = ledger::LONGEST_PAGE as u64;
-
 const TABLES: u64 = memory::TABLE as u64;
 
 const LAST_SLOT: u64 = tariff::SLOTS as u64 - 1;
@@ -115,7 +113,6 @@ fn named(name: u64) -> Command {
             Command(SHOWN, 0, 0, NUMBER, ANY, ANY, ANY)
         }
         names::SUMMARY | names::MISSING => Command(SHOWN, 1, 1, DAY, SMALL, ANY, ANY),
-        names::PAGE => Command(SHOWN, 2, 3, DAY, SMALL, SMALL, PAGES),
         _ => of_table(name),
     }
 }

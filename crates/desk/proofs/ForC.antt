@@ -23,13 +23,12 @@ use Rattle.ledger.specs.Layout.{first_of, days_of}
 use Rattle.ledger.specs.Rooms.{slot}
 use Rattle.ledger.specs.Judged.{judged}
 use Rattle.ledger.specs.Asked.{asked, day_missing, missing_of, summary_of}
-use Rattle.ledger.specs.Page.{page_judged, summary_row, rows_of}
 use Rattle.fields.specs.Views.{header_in}
 use Rattle.filing.specs.File.{read_of}
 use Rattle.filing.specs.Differs.{differs_of}
 use Rattle.desk.specs.Numbers.{answer_place, one_number, answer_in, carried_in, first_and_count, missing_number, flags_number, window_number, no_day, day_or_none}
 use Rattle.format.specs.Identifier.{letter_of}
-use Rattle.desk.specs.Given.{give_row, give_found, Gives, header_row, give_header, difference_row, give_differs, give_identifier, give_summary, give_page, half_number, give_halves}
+use Rattle.desk.specs.Given.{give_row, give_found, Gives, header_row, give_header, difference_row, give_differs, give_identifier, summary_row, give_summary, half_number, give_halves}
 use Rattle.desk.specs.Tables.{rate_judged, rate_number, give_week}
 use Rattle.tariff.specs.Rate.{rate_at}
 use Rattle.drawn.specs.Week.{week_text}
@@ -71,10 +70,6 @@ identifier_gives l out = row_gives out (table 12 (letter_of l)) (judged l) 0
 pub summary_gives : (l : List ℕ) (d : ℕ) (out : List ℕ) → Gives (give_summary l d out) out (answer (summary_of l d).answer 0) (summary_row (summary_of l d)) 0
 unfolding give_summary
 summary_gives l d out = row_gives out (summary_row (summary_of l d)) (summary_of l d).answer 0
-
-pub page_gives : (l : List ℕ) (d n : ℕ) (out : List ℕ) → Gives (give_page l d n out) out (answer (page_judged l d n) 0) (rows_of l d n) 0
-unfolding give_page
-page_gives l d n out = row_gives out (rows_of l d n) (page_judged l d n) 0
 
 pub halves_gives : (l : List ℕ) (d : ℕ) (out : List ℕ)
     → Gives (give_halves l d out) out (answer (asked l d) 0) (table halves_of_day (half_number (slot l (d - first_of l)))) (count (slot l (d - first_of l)))

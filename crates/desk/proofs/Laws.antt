@@ -5,7 +5,7 @@ use mathlib.Core.Bool.{Bool}
 use mathlib.Core.List.{List, [], ◌∷◌}
 use Prim.Native.Nat.{ℕ, zero, suc, ◌<◌, ◌≤◌, ◌+◌, ◌-◌, ◌*◌}
 use native.Mathlib.Omega.{arith}
-use lib.Dec.{eqb, leb}
+use lib.Dec.{eqb}
 use lib.ListN.{length, set, length-set}
 use lib.Seq.{sets}
 use borrow.Author.Tests.{eqb-true, eq-eqb, ne_eqb, lt-ltb, le-ltb, lt-leb, le-leb}
@@ -22,21 +22,18 @@ use Rattle.profile.specs.Profile.{before_at, advance_at}
 use Rattle.block.specs.declared.Answer.{Answer}
 use Rattle.days.specs.Day.{Half, held, no_half, half_at, count}
 use Rattle.days.specs.Energy.{values, advance_in}
-use Rattle.ledger.specs.Layout.{head_size, body_size, room_size, room_at, first_of, days_of, state_in, start_in, value_in, reverse_in, level2_in}
+use Rattle.ledger.specs.Layout.{head_size, room_size, room_at, first_of, days_of, state_in, start_in, value_in, reverse_in, level2_in}
 use Rattle.ledger.specs.Rooms.{half_in, day_with, day_at, slot}
 use Rattle.ledger.specs.Judged.{judged}
 use Rattle.ledger.specs.Open.{Opening, opening}
 use Rattle.ledger.specs.Asked.{asked, Asked, summary_of, day_missing, missing_of}
-use Rattle.ledger.specs.Page.{summary_numbers, page_judged, summary_row, rows_of, Paged, paged, page_of}
 use Rattle.filing.specs.File.{Filing, filing}
 use Rattle.ledger.specs.declared.SummaryAnswer.{SummaryAnswer}
 use Rattle.ledger.specs.declared.MissingAnswer.{MissingAnswer}
-use Rattle.ledger.specs.declared.PageAnswer.{PageAnswer}
 use Rattle.ledger.proofs.Good.{judged_good}
 use Rattle.ledger.proofs.Asking.{asked_of}
-use Rattle.ledger.proofs.Pages.{length_rows}
 use Rattle.desk.specs.Numbers.{one_number, number_of, first_and_count, missing_number, window_number, day_or_none}
-use Rattle.desk.specs.Given.{Given, given, give_row, give_summary, give_page, half_with, half_number, give_halves}
+use Rattle.desk.specs.Given.{given, give_row, summary_row, give_summary, half_with, half_number, give_halves}
 
 -- ---- one number
 
@@ -125,28 +122,26 @@ module _ (l : List ℕ) (d : ℕ) (out : List ℕ) (s : SummaryAnswer) (e : s �
   unfolding give_summary
   summary_given m f z h g = rw (← e) (row_given out (summary_row s) s.answer 0 r z 6 refl m f h g)
 
--- a page is given as the ledger gives it
-pub page_given : (l : List ℕ) (d n : ℕ) (out m : List ℕ) (a : PageAnswer) (r : ℕ) → paged m a ≡ page_of l d n out → r ≡ one_number a.answer a.carried → given m r ≡ give_page l d n out
-unfolding page_of give_page give_row
-page_given l d n out m a r e f = rw f (ap number e ∙ row)
-  where
-    number : Paged → Given
-    number p = given p.out (one_number p.answer.answer p.answer.carried)
-
-    row : number (page_of l d n out) ≡ give_row out (page_judged l d n) (rows_of l d n) 0
-    row =
-        by_test (eqb (page_judged l d n) 0)
-        (λ t. by_test (leb (summary_numbers * n) (length out)) (λ u. rw (t, length_rows l d n, u)) (λ u. rw (t, length_rows l d n, u)))
-        (λ t. rw t)
+pub six_of_lem : (out m : List ℕ) (h : ℕ) (s : SummaryAnswer) → h ≡ bit s.held → m ≡ sets out 0 (h ∷ s.count ∷ s.start.0 ∷ s.advance.0 ∷ s.reverse ∷ s.level2 ∷ []) → m ≡ sets out 0 (summary_row s)
+six_of_lem out m h s e f = f ∙ rw e
 
 -- ---- half-hours
 
 module _ (l : List ℕ) (at j : ℕ) where
+  pub before_first : (s : ℕ) (u : RegisterUnits) → s ≡ start_in l at → u ≡ last_four (units s) → j ≡ 0 → u.0 ≡ before_at (start_in l at) (value_in l at) j
+  unfolding before_at
+  before_first s u es eu z = ap (λ (v : RegisterUnits). v.0) eu ∙ rw (z, es)
+
   pub there_is : (v b a w x r s : ℕ) (p q : Bool) → v ≡ value_in l at j → b ≡ before_at (start_in l at) (value_in l at) j → a ≡ advance b v
       → w ≡ reverse_in l at → p ≡ marked w j → r ≡ bit p → x ≡ level2_in l at → q ≡ marked x j → s ≡ bit q
       → v + 65536 * a + 4294967296 * r + 8589934592 * s ≡ half_with (value_in l at j) (advance_at (start_in l at) (value_in l at) j) (bit (marked (reverse_in l at) j)) (bit (marked (level2_in l at) j))
   unfolding advance_at
   there_is v b a w x r s p q ev eb ea ew ep er ex eq es = rw (er, ep, ew, es, eq, ex, ea, eb, ev)
+
+pub before_later : (l : List ℕ) (at j v : ℕ) → (j ≡ 0 → ⊥) → v ≡ value_in l at (j - 1) → v ≡ before_at (start_in l at) (value_in l at) j
+unfolding before_at
+before_later l at zero v h e = absurd (h refl)
+before_later l at (suc j) v h e = let z : suc j - 1 ≡ j = omega arith in rw z at e
 
 advance_agree : (s : ℕ) (f g : ℕ → ℕ) (j : ℕ) → ((i : ℕ) → i ≤ j → f i ≡ g i) → advance_at s f j ≡ advance_at s g j
 unfolding advance_at before_at
@@ -190,9 +185,6 @@ module _ (l : List ℕ) (d : ℕ) (m : MissingAnswer) (e : m ≡ missing_of l d)
     module _ (at : ℕ) (ea : at ≡ room_at (d - first_of l)) where
       pub halves_room : at + room_size ≤ length l
       halves_room = omega (arith, halves_asked.room)
-
-      pub flags_room : at + body_size ≤ length l
-      flags_room = omega (arith, halves_room)
 
       pub halves_held : m.first ≡ count (day_at l at)
       unfolding missing_of day_missing slot

@@ -1,4 +1,4 @@
--- Rows of numbers written into an output that C lends: a block's header, what differs, the identifier, a day's summary, a page of them, and a day's 48 half-hours. They are
+-- Rows of numbers written into an output that C lends: a block's header, what differs, the identifier, a day's summary and its 48 half-hours. They are
 -- written where the answer is 0 and the output has room; the rest of the output, and all of it where the call is refused, stays as it was. 7 carries the
 -- room needed.
 use Rattle.std.specs.Prelude.{◌≡◌, cond, List, [], ◌∷◌, ◌++◌, ℕ, ◌+◌, ◌-◌, ◌*◌, ◌<◌, ◌≤◌, eqb, leb, ltb, length, get_or}
@@ -17,7 +17,7 @@ use Rattle.ledger.specs.Layout.{first_of}
 use Rattle.ledger.specs.Rooms.{slot}
 use Rattle.ledger.specs.Judged.{judged}
 use Rattle.ledger.specs.Asked.{asked, summary_of}
-use Rattle.ledger.specs.Page.{page_judged, summary_row, rows_of}
+use Rattle.ledger.specs.declared.SummaryAnswer.{SummaryAnswer}
 use Rattle.filing.specs.File.{read_of}
 use Rattle.filing.specs.Differs.{differs_of}
 use Rattle.filing.specs.declared.Difference.{Difference}
@@ -83,13 +83,11 @@ give_identifier l out = give_row out (judged l) (table ident_length (letter_of l
 
 -- ---- a day's summary: held, k, start, summed advance, counts of reverse and Level 2 marks
 
+abbrev pub summary_row : SummaryAnswer → List ℕ
+summary_row s = bit s.held ∷ s.count ∷ s.start.0 ∷ s.advance.0 ∷ s.reverse ∷ s.level2 ∷ []
+
 unfoldable pub give_summary : List ℕ → ℕ → List ℕ → Given
 give_summary l d out = give_row out (summary_of l d).answer (summary_row (summary_of l d)) 0
-
--- ---- a page: the summaries of n days from day d on, the oldest first
-
-unfoldable pub give_page : List ℕ → ℕ → ℕ → List ℕ → Given
-give_page l d n out = give_row out (page_judged l d n) (rows_of l d n) 0
 
 -- ---- a day's half-hours: value, 2 ^ 16 advance, 2 ^ 32 reverse mark, 2 ^ 33 Level 2 mark; 0 where it is not held
 

@@ -3,13 +3,14 @@ ghost use Rattle.std.specs.Prelude.{◌≡◌, [], ◌∷◌, ◌≤◌, length}
 ghost use Rattle.std.proofs.lemmas.List.Edits.{sets};
 ghost use Rattle.laws.specs.Table.{table};
 ghost use Rattle.format.specs.Identifier.{letter_of};
-ghost use Rattle.desk.specs.Given.{header_numbers, rate_of, header_row};
+ghost use Rattle.desk.specs.Given.{header_numbers, rate_of, header_row, summary_row};
 
 use crate::{
     HEAD_CUMULATIVE, HEAD_CURRENT, HEAD_DAYS, HEAD_KWH, HEAD_PREVIOUS, HEAD_RATES, HEAD_RESET,
     HEAD_RESETS, HEAD_TIME,
 };
 use block::Header;
+use ledger::SummaryAnswer;
 use quantity::KilowattHours;
 
 fn put_totals(out: &mut [u64], a: u64, b: u64, c: u64, d: u64, e: u64, f: u64, g: u64)
@@ -84,4 +85,32 @@ pub fn copy_identifier(out: &mut [u8], l: &[u8])
         out[i] = l[i];
         i += 1;
     }
+}
+
+fn put_six(out: &mut [u64], a: u64, b: u64, c: u64, d: u64, e: u64, f: u64)
+    requires { 6 ≤ length out.old }
+    ensures { out.new ≡ sets out.old 0 (a ∷ b ∷ c ∷ d ∷ e ∷ f ∷ []) }
+{
+    out[0] = a;
+    out[1] = b;
+    out[2] = c;
+    out[3] = d;
+    out[4] = e;
+    out[5] = f;
+}
+
+pub fn put_summary(out: &mut [u64], s: SummaryAnswer)
+    requires { 6 ≤ length out.old }
+    ensures { out.new ≡ sets out.old 0 (summary_row s) }
+{
+    let held = marks::one_or_0(s.held);
+    put_six(
+        out,
+        held,
+        s.count as u64,
+        s.start.0,
+        s.advance.0,
+        s.reverse as u64,
+        s.level2 as u64,
+    );
 }

@@ -54,14 +54,14 @@ abbrev pub late : List (List ℕ)
 late = block 2 ∷ block 0 ∷ []
 
 abbrev pub ledger : List ℕ
-ledger = replicate 367 0
+ledger = replicate 358 0
 
 abbrev pub held : List ℕ
 held = filed meter lent calls ledger identifier 0 3 late
 
 -- what is newly held by each of some blocks, in a ledger of the first day alone
 abbrev pub newly_by : List (List ℕ) → List ℕ
-newly_by bs = map (λ (a : Answer). a.carried) (answers_all (opened meter lent calls (replicate 133 0) identifier 0 1 bs) bs)
+newly_by bs = map (λ (a : Answer). a.carried) (answers_all (opened meter lent calls (replicate 130 0) identifier 0 1 bs) bs)
 
 -- day d is held with so many half-hours, this start and these flags; and the value of half-hour j
 pub record IsDay (d k start flags : ℕ) : Type 0 where

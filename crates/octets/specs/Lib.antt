@@ -1,3 +1,2 @@
--- Bytes: cases of a block's bytes. Sums: of a ledger's.
+-- Bytes: cases of a block's bytes.
 pub mod Bytes
-pub mod Sums

@@ -22,12 +22,11 @@ use Rattle.laws.specs.Bits.{bit_at, pack_bits}
 use Rattle.laws.specs.Each.{each}
 use Rattle.laws.specs.Table.{table}
 use Rattle.laws.specs.Tests.{all_below, sum_below}
-use Rattle.ledger.specs.Asked.{asked, in_window, summary_of, missing_of, marked, day_summary, day_missing}
-use Rattle.ledger.specs.Judged.{flags_ok, good_ledger, head_ok, judged, ledger_checks, marks_ok, room_ok, room_test, body_with, body_ok, sum_ok, start_ok, value_test, values_ok}
+use Rattle.ledger.specs.Asked.{asked, in_window, summary_of, missing_of, day_summary, day_missing}
+use Rattle.ledger.specs.Judged.{flags_ok, good_ledger, head_ok, ledger_checks, marks_ok, room_ok, room_test, room_with, start_ok, value_test, values_ok}
 use Rattle.ledger.specs.Layout.{value_in}
-use Rattle.ledger.specs.Page.{page_in, page_judged, rows_of, page_of}
 use Rattle.ledger.specs.Open.{head_byte, head_of, open_answer, open_checks, open_of, open_ok}
-use Rattle.ledger.specs.Rooms.{day_at as ledger_day_at, half_in, pack, pack_byte, room_byte, room_bytes, slot, sum_of, word_of}
+use Rattle.ledger.specs.Rooms.{day_at as ledger_day_at, half_in, pack, pack_byte, room_byte, slot, word_of}
 use Rattle.marks.specs.Marks.{ended_part, marks_sent, taken}
 use Rattle.profile.specs.Profile.{advance_at, before_at, end_reading, summed_advance, values_from}
 use Rattle.readout.specs.Read.{header_sent, rate_sent, read_answer, read_back, read_of as readout_read_of}
@@ -60,7 +59,7 @@ unfolding judgement_day_at value_sent word_sent day_fits day_given days_fit days
 opens_sending = tt
 
 unfoldable pub opens_filing : Unit {0}
-unfolding judged marked page_in page_judged rows_of page_of asked in_window summary_of missing_of day_summary day_missing join_day same_flags flags_held carries offer offered agree_at agrees day_after file_answer file_checks file_of held_of ident_at ledger_after newly_held filing_read_of refusal same_meter flags_ok good_ledger head_ok ledger_checks marks_ok room_ok room_test body_with body_ok sum_ok start_ok value_test values_ok value_in head_byte head_of open_answer open_checks open_of open_ok ledger_day_at half_in pack pack_byte room_byte room_bytes slot sum_of word_of half_of view_in view_of
+unfolding asked in_window summary_of missing_of day_summary day_missing join_day same_flags flags_held carries offer offered agree_at agrees day_after file_answer file_checks file_of held_of ident_at ledger_after newly_held filing_read_of refusal same_meter flags_ok good_ledger head_ok ledger_checks marks_ok room_ok room_test room_with start_ok value_test values_ok value_in head_byte head_of open_answer open_checks open_of open_ok ledger_day_at half_in pack pack_byte room_byte slot word_of half_of view_in view_of
 opens_filing = tt
 
 unfoldable pub opens : Unit {0}

@@ -5,7 +5,7 @@ use mathlib.Core.List.{map}
 use Rattle.cases.specs.Cases.{Case}
 use Rattle.orders.proofs.Opens.{opens}
 use Rattle.orders.proofs.Rows.{Met, both}
-use Rattle.orders.specs.Orders.{reading, writing, parsing, opening, filing, comparing, asking, paging, orders}
+use Rattle.orders.specs.Orders.{reading, writing, parsing, opening, filing, comparing, asking, orders}
 
 reading_met : Met reading
 unfolding opens
@@ -35,9 +35,5 @@ asking_met : Met asking
 unfolding opens
 asking_met = record { is = refl }
 
-paging_met : Met paging
-unfolding opens
-paging_met = record { is = refl }
-
 pub in_order : map (λ (c : Case). c.given) orders ≡ map (λ (c : Case). c.due) orders
-in_order = (both reading_met (both writing_met (both parsing_met (both opening_met (both filing_met (both comparing_met (both asking_met paging_met))))))).is
+in_order = (both reading_met (both writing_met (both parsing_met (both opening_met (both filing_met (both comparing_met asking_met)))))).is

@@ -9,7 +9,6 @@ use Rattle.block.specs.Parse.{parse}
 use Rattle.writer.specs.Send.{write_of}
 use Rattle.ledger.specs.Open.{open_of}
 use Rattle.ledger.specs.Asked.{summary_of, missing_of}
-use Rattle.ledger.specs.Page.{page_of}
 use Rattle.filing.specs.File.{file_of}
 use Rattle.store.specs.Store.{Store, store}
 use Rattle.registers.specs.declared.Demand.{Demand}
@@ -97,15 +96,15 @@ parses b = answer_of (parse b)
 abbrev pub ledger : ℕ → List ℕ → List ℕ
 ledger days rooms = ident ++ (0 ∷ 0 ∷ days / 256 ∷ days % 256 ∷ rooms)
 
--- rooms of 117 bytes: an absent day; a day held with its start, 7, and no half-hour; a state of 50, which is out of range
+-- rooms of 114 bytes: an absent day; a day held with its start, 7, and no half-hour; a state of 50, which is out of range
 abbrev pub absent_room : List ℕ
-absent_room = replicate 117 0
+absent_room = replicate 114 0
 
 abbrev pub held_room : List ℕ
-held_room = 1 ∷ 0 ∷ 0 ∷ 0 ∷ 0 ∷ 7 ∷ replicate 111 0
+held_room = 1 ∷ 0 ∷ 0 ∷ 0 ∷ 0 ∷ 7 ∷ replicate 108 0
 
 abbrev pub bad_room : List ℕ
-bad_room = 50 ∷ replicate 116 0
+bad_room = 50 ∷ replicate 113 0
 
 -- opening so many bytes for an identifier, a first day and so many days
 abbrev pub opens : ℕ → List ℕ → ℕ → ℕ → ℕ
@@ -117,10 +116,6 @@ files l b = (file_of l b).answer
 -- the summary of a day and what is missing of it
 abbrev pub asks : List ℕ → ℕ → List ℕ
 asks l d = (summary_of l d).answer ∷ (missing_of l d).answer ∷ []
-
--- a page's answer, and what it carries
-abbrev pub pages : List ℕ → ℕ → ℕ → ℕ → List ℕ
-pages l d n room = let a = (page_of l d n (replicate room 0)).answer in a.answer ∷ a.carried ∷ []
 
 -- ---- the rows
 
@@ -192,17 +187,17 @@ parsing =
 abbrev pub opening : List Case
 opening =
     -- done: the first day, the last; 4: a byte too few, a byte too many, the room of one for 451 days
-    record { given = opens 133 ident 0 1 ∷ opens 133 ident 36524 1 ∷ opens 132 ident 0 1 ∷ opens 134 ident 0 1 ∷ opens 133 ident 0 451 ∷ []; due = 0 ∷ 0 ∷ 4 ∷ 4 ∷ 4 ∷ [] }
+    record { given = opens 130 ident 0 1 ∷ opens 130 ident 36524 1 ∷ opens 129 ident 0 1 ∷ opens 131 ident 0 1 ∷ opens 130 ident 0 451 ∷ []; due = 0 ∷ 0 ∷ 4 ∷ 4 ∷ 4 ∷ [] }
     -- done: small letters in PPP; 6: a hyphen in it
-    ∷ record { given = opens 133 (unlike 0 97) 0 1 ∷ opens 133 (unlike 2 122) 0 1 ∷ opens 133 (unlike 1 45) 0 1 ∷ []; due = 0 ∷ 0 ∷ 6 ∷ [] }
+    ∷ record { given = opens 130 (unlike 0 97) 0 1 ∷ opens 130 (unlike 2 122) 0 1 ∷ opens 130 (unlike 1 45) 0 1 ∷ []; due = 0 ∷ 0 ∷ 6 ∷ [] }
     -- 6: a small letter as M; past 2099; two days, of which the second is
-    ∷ record { given = opens 133 small 0 1 ∷ opens 133 ident 36525 1 ∷ opens 250 ident 36524 2 ∷ []; due = 6 ∷ 6 ∷ 6 ∷ [] }
+    ∷ record { given = opens 130 small 0 1 ∷ opens 130 ident 36525 1 ∷ opens 244 ident 36524 2 ∷ []; due = 6 ∷ 6 ∷ 6 ∷ [] }
     -- 451 days with the room of one: to the last day of 2099, 4; to the next, 6
-    ∷ record { given = opens 133 ident 36074 451 ∷ opens 133 ident 36075 451 ∷ []; due = 4 ∷ 6 ∷ [] }
+    ∷ record { given = opens 130 ident 36074 451 ∷ opens 130 ident 36075 451 ∷ []; due = 4 ∷ 6 ∷ [] }
     -- 6 before 4, a byte too few each time: these; eleven characters; thirteen; no day; 452 days
     ∷ record {
-      given = opens 132 small 0 1 ∷ opens 132 ident 36525 1 ∷ opens 132 (take 11 ident) 0 1 ∷ opens 132 (ident ++ (48 ∷ [])) 0 1
-          ∷ opens 132 ident 0 0 ∷ opens 132 ident 0 452 ∷ [];
+      given = opens 129 small 0 1 ∷ opens 129 ident 36525 1 ∷ opens 129 (take 11 ident) 0 1 ∷ opens 129 (ident ++ (48 ∷ [])) 0 1
+          ∷ opens 129 ident 0 0 ∷ opens 129 ident 0 452 ∷ [];
       due = replicate 6 6;
     }
     ∷ []
@@ -246,7 +241,7 @@ filing =
     -- too short for its count, 4 before 8: 2 and 451 days with the room of one; no block
     ∷ record { given = told (files (ledger 2 absent_room) [] ∷ files (ledger 451 absent_room) [] ∷ []); due = 4 ∷ 0 ∷ 4 ∷ 0 ∷ [] }
     -- 4 before 5 and 8: a state out of range, in a ledger a byte too short, a byte too long; no block
-    ∷ record { given = told (files (take 132 (ledger 1 bad_room)) [] ∷ files (ledger 1 (bad_room ++ (0 ∷ []))) [] ∷ []); due = 4 ∷ 0 ∷ 4 ∷ 0 ∷ [] }
+    ∷ record { given = told (files (take 129 (ledger 1 bad_room)) [] ∷ files (ledger 1 (bad_room ++ (0 ∷ []))) [] ∷ []); due = 4 ∷ 0 ∷ 4 ∷ 0 ∷ [] }
     -- 5 before 8: a state out of range; no block
     ∷ record { given = told (files (ledger 1 bad_room) [] ∷ []); due = 5 ∷ 0 ∷ [] }
     -- another meter's block, with a reset count without a date. 8 before 9, 10 and 11: version 2, and a colon in the current demand
@@ -272,26 +267,11 @@ asking =
     -- a day count that isn't 1 to 451, 5 before 4 and 6: 0 and 452 days with the room of one
     ∷ record { given = asks (ledger 0 absent_room) 1 ++ asks (ledger 452 absent_room) 1000; due = replicate 4 5 }
     -- 4 before 5 and 6: a state out of range, in a ledger a byte too short; in one too short for its count
-    ∷ record { given = asks (take 132 (ledger 1 bad_room)) 1 ++ asks (ledger 2 bad_room) 2; due = replicate 4 4 }
+    ∷ record { given = asks (take 129 (ledger 1 bad_room)) 1 ++ asks (ledger 2 bad_room) 2; due = replicate 4 4 }
     -- 5 before 6: a state out of range
     ∷ record { given = asks (ledger 1 bad_room) 1; due = 5 ∷ 5 ∷ [] }
     ∷ []
 
--- a page of so many days from a day on, into an output of so many numbers
-abbrev pub paging : List Case
-paging =
-    -- done: day 0, two days; 6: day 1 of a window of one, two days of which the second is outside it, no day
-    record { given = pages (ledger 1 held_room) 0 1 6 ++ pages (ledger 2 (held_room ++ absent_room)) 0 2 12; due = 0 ∷ 0 ∷ 0 ∷ 0 ∷ [] }
-    ∷ record { given = pages (ledger 1 held_room) 1 1 6 ++ (pages (ledger 1 held_room) 0 2 12 ++ pages (ledger 1 held_room) 0 0 6); due = 6 ∷ 0 ∷ 6 ∷ 0 ∷ 6 ∷ 0 ∷ [] }
-    -- 7: a number too few, of one day and of two; 6 before 7: the same outside the window
-    ∷ record { given = pages (ledger 1 held_room) 0 1 5 ++ pages (ledger 2 (held_room ++ absent_room)) 0 2 11; due = 7 ∷ 6 ∷ 7 ∷ 12 ∷ [] }
-    ∷ record { given = pages (ledger 1 held_room) 1 1 5 ++ pages (ledger 1 held_room) 0 2 11; due = 6 ∷ 0 ∷ 6 ∷ 0 ∷ [] }
-    -- outside the window, without room each time. 4 before 5, 6 and 7: under 16 bytes; a state out of range, in a ledger a byte too short
-    ∷ record { given = pages (take 15 (ledger 1 [])) 1 1 0 ++ pages (take 132 (ledger 1 bad_room)) 1 1 0; due = 4 ∷ 0 ∷ 4 ∷ 0 ∷ [] }
-    -- 5 before 6 and 7: a state out of range; a sum that is not its day's, of a day that is not asked for
-    ∷ record { given = pages (ledger 1 bad_room) 1 1 0 ++ pages (byte_at 132 1 (ledger 1 held_room)) 1 1 0; due = 5 ∷ 0 ∷ 5 ∷ 0 ∷ [] }
-    ∷ []
-
 -- all of them
 abbrev pub orders : List Case
-orders = reading ++ (writing ++ (parsing ++ (opening ++ (filing ++ (comparing ++ (asking ++ paging))))))
+orders = reading ++ (writing ++ (parsing ++ (opening ++ (filing ++ (comparing ++ asking)))))

@@ -74,39 +74,10 @@ fn of_block(name: u64, block: &[u8]) -> bool {
 }
 
 fn summary(ledger: &[u8], day: u32) -> bool {
-    let mut numbers = [0u64; ledger::SUMMARY];
+    let mut numbers = [0u64; desk::SUMMARY];
     let answer = desk::cop6_summary(ledger, day, &mut numbers);
     printed::number(answer / desk::ANSWER);
     printed::then_all(&numbers);
-    printed::end()
-}
-
-// `page DAY N` has the longest room, `page DAY N ROOM` the one that it names.
-fn page_room(said: Said) -> usize {
-    if said.n == 2 {
-        ledger::LONGEST_PAGE
-    } else {
-        said.c as usize
-    }
-}
-
-// How many numbers stand in an output: none where the page is refused.
-fn filled(answer: u32, days: u64) -> usize {
-    if answer == answers::DONE {
-        return parts::smaller(days as usize, ledger::LONGEST_PAGE) * ledger::SUMMARY;
-    }
-    0
-}
-
-fn page(ledger: &[u8], said: Said) -> bool {
-    let mut numbers = [0u64; ledger::LONGEST_PAGE];
-    let room = page_room(said);
-    let day = memory::narrow(said.a);
-    let days = memory::narrow(said.b);
-    let a = ledger::page(ledger, day, days, memory::part64(&mut numbers, 0, room));
-    printed::number(a.answer as u64);
-    printed::then(a.carried as u64);
-    printed::then_all(parts::part64(&numbers, 0, filled(a.answer, said.b)));
     printed::end()
 }
 
@@ -118,13 +89,11 @@ fn missing(ledger: &[u8], day: u32) -> bool {
     printed::end()
 }
 
-fn of_ledger(said: Said, ledger: &[u8]) -> bool {
-    let name = said.name;
+fn of_ledger(name: u64, day: u64, ledger: &[u8]) -> bool {
     match name {
         names::LEDGER => printed::hex(ledger),
-        names::PAGE => page(ledger, said),
-        names::SUMMARY => summary(ledger, memory::narrow(said.a)),
-        _ => missing(ledger, memory::narrow(said.a)),
+        names::SUMMARY => summary(ledger, memory::narrow(day)),
+        _ => missing(ledger, memory::narrow(day)),
     }
 }
 
@@ -132,9 +101,11 @@ pub fn shown(said: Said, row: &Row, blocks: &Blocks, ledger: &Ledger) -> bool {
     let name = said.name;
     match name {
         names::SHOW => recorder(row),
-        names::SUMMARY | names::PAGE | names::MISSING | names::LEDGER => {
-            of_ledger(said, shelves::book::lent(row, ledger))
-        }
+        names::SUMMARY | names::MISSING | names::LEDGER => of_ledger(
+            name,
+            said.a,
+            shelves::book::lent(row, ledger),
+        ),
         _ => of_block(name, shelves::current(row, blocks)),
     }
 }

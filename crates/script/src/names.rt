@@ -62,8 +62,6 @@ pub const DELIVER: u64 = 0x64656c69766572;
 
 pub const SUMMARY: u64 = 0x73756d6d617279;
 
-pub const PAGE: u64 = 0x70616765;
-
 pub const MISSING: u64 = 0x6d697373696e67;
 
 pub const LEDGER: u64 = 0x6c6564676572;

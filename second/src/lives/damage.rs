@@ -1,11 +1,10 @@
 //! Damaged blocks and ledgers: each byte position changed, lengths cut and grown, and
 //! blocks of other meters.
 
-use super::sums::fit_sum;
 use super::{write_into, Life, Script, IDENTIFIER, MOST_32_BITS, OTHER_METER};
 use crate::block::{self, AT_NUMBER, AT_RESET, AT_TIME, FRAME_BYTES, LENGTH_BYTES, NUMBER_DIGITS};
 use crate::calendar::{write_date, DATE_DIGITS, DAYS, HALF_HOURS, LAST_DAY, SECONDS_PER_DAY};
-use crate::ledger::{self, AT_DAYS, AT_FIRST, DAY_FLAGS, DAY_REVERSE, DAY_START, DAY_SUM, DAY_VALUES, VALUE_BYTES};
+use crate::ledger::{self, AT_DAYS, AT_FIRST, DAY_FLAGS, DAY_REVERSE, DAY_START, DAY_VALUES, VALUE_BYTES};
 use crate::listing;
 use crate::quantities::{modulus, READING_MODULUS, VALUE_MODULUS};
 use crate::recorder::Class;
@@ -306,10 +305,6 @@ fn edges(life: &mut Life, opened: &str, right: &[u8]) {
         }
         let day = today - 2 + life.random.below(5);
         life.summary_and_missing(day);
-        // Under a sum that fits, a field is judged by its own range.
-        if let Some(past) = at.checked_sub(ledger::HEADER_BYTES).filter(|past| past % ledger::DAY_BYTES < DAY_SUM) {
-            fit_sum(life, past / ledger::DAY_BYTES);
-        }
         life.summary_and_missing(today);
         life.say_all(&["deliver 0", opened, "deliver 0"]);
     }

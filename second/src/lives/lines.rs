@@ -17,7 +17,7 @@ fn well_formed() -> Vec<String> {
     let after_length = HEADER_BYTES - block::LENGTH_BYTES;
     let (last_kept, last_letter) = (KEPT_BLOCKS - 1, identifier::LENGTH - 1);
     let (last_day, last_half_hour) = (block::MOST_DAYS - 1, HALF_HOURS - 1);
-    let (most_value, longest_window, most_numbers) = (VALUE_MODULUS - 1, ledger::MOST_DAYS, ledger::MOST_NUMBERS);
+    let (most_value, longest_window) = (VALUE_MODULUS - 1, ledger::MOST_DAYS);
     split(format!(
         "setup {IDENTIFIER} a p 10000 240229 110000 0 0\n\
          setup {IDENTIFIER} b s 10000 @762000000 5000 {MOST_32_BITS}\n\
@@ -71,8 +71,6 @@ fn well_formed() -> Vec<String> {
          deliver {last_kept}\n\
          summary 240229\n\
          missing @8825\n\
-         page 240229 1\n\
-         page @8825 {MOST_32_BITS} {most_numbers}\n\
          ledger\n\
          lend\n\
          lend {values} {starts} {marks}"
@@ -187,7 +185,6 @@ fn not_understood_either() -> Vec<String> {
     let past_32_bits = MOST_32_BITS + 1;
     let past_most = MOST_NUMBER + 1;
     let (letters, past_rates, given_days) = (identifier::LENGTH, RATES + 1, block::MOST_DAYS);
-    let past_page = ledger::MOST_NUMBERS + 1;
     split(format!(
         "lend 1\n\
          lend 1 2\n\
@@ -241,9 +238,6 @@ fn not_understood_either() -> Vec<String> {
          summary 230229\n\
          missing\n\
          missing x\n\
-         page\n\
-         page 240229\n\
-         page 240229 1 {past_page}\n\
          ledger 1\n\
          file 1\n\
          listing 1\n\

@@ -2,7 +2,7 @@
 
 use super::{
     adjustments, boundaries, calls, characters, complete, conflicts, damage, dates, ends, hostile, lines, longest,
-    names, ordinary, outages, phases, sums, tables, weights, writer, Script,
+    names, ordinary, outages, phases, tables, weights, writer, Script,
 };
 use crate::random::Random;
 use crate::recorder::Class;
@@ -10,7 +10,7 @@ use crate::recorder::Class;
 type Generator = fn(u64) -> Script;
 
 /// The kinds of a round, each with the number of scripts of that kind.
-const KINDS: [(Generator, u64); 101] = [
+const KINDS: [(Generator, u64); 90] = [
     (ordinary::weeks, 16),
     (ordinary::year, 1),
     (ordinary::ledgers, 3),
@@ -101,17 +101,6 @@ const KINDS: [(Generator, u64); 101] = [
     (phases::states::fields, 1),
     (phases::states::set_ups, 1),
     (phases::lines::forms, 1),
-    (sums::damaged::bytes, 1),
-    (sums::damaged::slipped, 1),
-    (sums::fields::values, 1),
-    (sums::fields::starts, 1),
-    (sums::fields::states, 1),
-    (sums::grown::half_hours, 1),
-    (sums::grown::deliveries, 1),
-    (sums::pages::windows, 1),
-    (sums::order::answers, 1),
-    (sums::order::lengths, 1),
-    (sums::lines::forms, 1),
 ];
 
 /// All scripts of one round.

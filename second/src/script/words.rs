@@ -163,7 +163,3 @@ pub fn print(answer: Answer) -> Option<String> {
 pub fn print_done(carried: usize) -> Option<String> {
     print(Answer::done(carried))
 }
-
-pub fn print_numbers(numbers: &[u64]) -> String {
-    numbers.iter().map(u64::to_string).collect::<Vec<String>>().join(" ")
-}

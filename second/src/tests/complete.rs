@@ -186,7 +186,7 @@ fn windows_of_450_451_and_452_days() {
         ("981006", 452, OUT_OF_RANGE),
     ] {
         let day = calendar::read_date(first.as_bytes()).unwrap();
-        let mut bytes = vec![1; 16 + 117 * days as usize];
+        let mut bytes = vec![1; 16 + 114 * days as usize];
         assert_eq!(ledger::open(&IDENTIFIER, day, days, &mut bytes).number, answer, "{first} {days}");
         let opened = ledger::open(&IDENTIFIER, day, days, &mut vec![0; bytes.len() - 1]).number;
         assert_eq!(opened, if answer == 0 { WRONG_LENGTH } else { answer });
@@ -195,17 +195,17 @@ fn windows_of_450_451_and_452_days() {
 
 #[test]
 fn a_ledger_s_own_count() {
-    let mut bytes = vec![0; 52_783];
+    let mut bytes = vec![0; 51_430];
     assert_eq!(ledger::open(&IDENTIFIER, 0, 451, &mut bytes), Answer::done(0));
     assert_eq!(bytes[14..16], [1, 0xc3]);
     for (count, length, answer) in [
-        ([1, 0xc3], 52_783, 0),
-        ([1, 0xc3], 52_782, WRONG_LENGTH),
-        ([1, 0xc2], 52_783, WRONG_LENGTH),
-        ([1, 0xc2], 52_666, 0),
-        ([1, 0xc4], 52_783, DAMAGED),
-        ([1, 0xc4], 52_900, DAMAGED),
-        ([0, 0], 52_783, DAMAGED),
+        ([1, 0xc3], 51_430, 0),
+        ([1, 0xc3], 51_429, WRONG_LENGTH),
+        ([1, 0xc2], 51_430, WRONG_LENGTH),
+        ([1, 0xc2], 51_316, 0),
+        ([1, 0xc4], 51_430, DAMAGED),
+        ([1, 0xc4], 51_544, DAMAGED),
+        ([0, 0], 51_430, DAMAGED),
         ([0, 0], 16, DAMAGED),
     ] {
         let mut changed = bytes.clone();
@@ -220,7 +220,7 @@ fn a_class_d_store_fills_a_ledger() {
     let mut outstation = begun(Class::D);
     outstation.event(Event::Clock(at("250524235959")));
     let first = calendar::read_date(b"240229").unwrap();
-    let mut bytes = vec![0; 52_783];
+    let mut bytes = vec![0; 51_430];
     assert_eq!(ledger::open(&IDENTIFIER, first, 451, &mut bytes), Answer::done(0));
     // 450 whole days, and 47 half-hours of the last one.
     assert_eq!(ledger::file(&mut bytes, &outstation.read(999)), Answer::done(21_647));
@@ -260,10 +260,8 @@ fn what_a_script_takes_at_most() {
         "given value 450 47 0",
         "write 98881",
         "open ABCX24000017 000101 451",
-        "page 000101 451 2706",
-        "page 000101 4294967295",
-        "poke ledger 52782 0",
-        "lend ledger 52783",
+        "poke ledger 51429 0",
+        "lend ledger 51430",
         "poke value 21647 0",
         "poke start 450 0",
         "poke mark 1352 0",
@@ -277,10 +275,8 @@ fn what_a_script_takes_at_most() {
         "given start 451 0",
         "given value 451 47 0",
         "write 98882",
-        "poke ledger 52783 0",
-        "lend ledger 52784",
-        "page 000101 451 2707",
-        "page 000101 4294967296",
+        "poke ledger 51430 0",
+        "lend ledger 51431",
         "poke value 21648 0",
         "poke start 451 0",
         "poke mark 1353 0",

@@ -2,7 +2,6 @@
 //! their blocks lost, repeated and in any order: each holds what the history has of the days that were delivered.
 
 use super::history::{any_event, any_ppp, History, Watched};
-use super::sums::sum_by_falls;
 use super::*;
 use crate::answer::{DONE, OTHER_METER};
 use crate::calendar::{day_of, ended, HALF_HOURS};
@@ -26,8 +25,6 @@ fn room(day: &Day, half_hours: usize) -> Vec<u8> {
         let held = word >> (HALF_HOURS - half_hours) << (HALF_HOURS - half_hours);
         bytes.extend(&held.to_be_bytes()[2..]);
     }
-    let sum = sum_by_falls(day.start, &day.values[..half_hours]);
-    bytes.extend(&sum.to_be_bytes()[5..]);
     bytes
 }
 
@@ -39,13 +36,13 @@ fn expected(opened: &Identifier, window: (u64, u64), history: &History, delivere
     bytes.extend((days as u16).to_be_bytes());
     for day in first..first + days {
         let half_hours = delivered.iter().filter_map(|block| brought(block, day)).max();
-        bytes.extend(half_hours.map_or(vec![0; 117], |half_hours| room(history.day(day), half_hours)));
+        bytes.extend(half_hours.map_or(vec![0; 114], |half_hours| room(history.day(day), half_hours)));
     }
     bytes
 }
 
 /// A life of some days, and the blocks that were read of it.
-pub fn lived(class: Class, random: &mut Random) -> (Watched, Vec<Vec<u8>>) {
+fn lived(class: Class, random: &mut Random) -> (Watched, Vec<Vec<u8>>) {
     let mut watched = Watched::begin(class, random);
     let mut blocks = Vec::new();
     while watched.history.days.len() <= class.days() + 9 || blocks.is_empty() {
@@ -59,14 +56,14 @@ pub fn lived(class: Class, random: &mut Random) -> (Watched, Vec<Vec<u8>>) {
 }
 
 /// Some of the blocks, some of them more than once, in any order.
-pub fn some_of<'a>(blocks: &'a [Vec<u8>], random: &mut Random) -> Vec<&'a Vec<u8>> {
+fn some_of<'a>(blocks: &'a [Vec<u8>], random: &mut Random) -> Vec<&'a Vec<u8>> {
     let mut some: Vec<&Vec<u8>> = blocks.iter().chain(blocks).filter(|_| random.once_in(2)).collect();
     random.shuffle(&mut some);
     some
 }
 
 /// The ledger opened so, and each block delivered, and with it the same block of another meter.
-pub fn filed(opened: &Identifier, window: (u64, u64), delivered: &[&Vec<u8>]) -> Vec<u8> {
+fn filed(opened: &Identifier, window: (u64, u64), delivered: &[&Vec<u8>]) -> Vec<u8> {
     let mut bytes = vec![0; ledger::bytes_for(window.1 as usize)];
     assert_eq!(ledger::open(opened, window.0, window.1, &mut bytes), Answer::done(0));
     let mut held = 0;

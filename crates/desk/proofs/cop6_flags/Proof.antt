@@ -1,4 +1,4 @@
-use Rattle.desk.proofs.Laws.{halves_asked, flags_room}
+use Rattle.desk.proofs.Laws.{halves_asked, halves_room}
 use Rattle.desk.proofs.Blocks.{flags_refused, flags_given}
 use borrow.Author.Rules.{rules}
 use Rattle.desk.proofs.cop6_flags.Statement.{statement}
@@ -17,7 +17,7 @@ room-of-requires : tie.Need-room-of-requires
 room-of-requires c κs = search halves_asked
 
 flags-requires : tie.Need-flags-requires
-flags-requires c κs = search flags_room
+flags-requires c κs = search halves_room
 
 returns-2 : tie.Need-returns-2
 returns-2 c = search flags_given

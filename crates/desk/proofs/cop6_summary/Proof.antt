@@ -21,8 +21,8 @@ one-number-requires-2 c κs = search rules
 returns-2 : tie.Need-returns-2
 returns-2 c = search summary_short
 
-put-row-requires : tie.Need-put-row-requires
-put-row-requires c κs = search rules
+put-summary-requires : tie.Need-put-summary-requires
+put-summary-requires c κs = search rules
 
 one-number-requires-3 : tie.Need-one-number-requires-3
 one-number-requires-3 c κs = search rules
@@ -43,7 +43,7 @@ cop6-summary-spec =
     cast-one-number
     one-number-requires-2
     returns-2
-    put-row-requires
+    put-summary-requires
     one-number-requires-3
     same_length
     returns-3)
