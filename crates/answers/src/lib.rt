@@ -1,4 +1,6 @@
 // The answer numbers by name (docs/ANSWERS.md): a call is done, or the number says why it is refused. desk/cop6.h has the same names for C.
+#![tactic(auto)]
+
 pub const DONE: u32 = 0;
 
 // On while power is on; any other event, or a read, while it is off.

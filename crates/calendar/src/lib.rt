@@ -1,5 +1,7 @@
 // Days, dates and seconds of 2000-01-01 00:00:00 to 2099-12-31 23:59:59, as numbers, as fields and as decimal digits.
 // A day's date is found by formulas, a date's day by a formula and a table: neither walks. Every public function has an answer for every input.
+#![tactic(auto)]
+
 ghost use Rattle.std.specs.Prelude.{◌≡◌, ◌+◌, ◌*◌, ◌<◌, ◌≤◌};
 ghost use Rattle.laws.specs.Tests.{sum_below};
 ghost use Rattle.calendar.specs.Calendar.{days_in_all, leap_day, year_length, month_length, place, day_of, date_of};

@@ -1,5 +1,7 @@
 // What a script's line asks for, as one table: what it is, how many words follow the name, and what they must be. Here the words become numbers, once; a line
 // that breaks its command's limits is not understood, so that no part of a program has to look at words again.
+#![tactic(auto)]
+
 mod words;
 
 use script::{Said, names};

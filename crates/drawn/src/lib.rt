@@ -1,5 +1,7 @@
 // A week of a switching table as text (docs/TARIFF.md, "A week drawn"), written into a lent buffer.
 // A text that does not fit is not begun: the buffer stays as it was.
+#![tactic(auto)]
+
 ghost use Rattle.std.specs.Prelude.{◌≡◌, ◌+◌, ◌-◌, ◌*◌, ◌<◌, ◌≤◌, length};
 ghost use Rattle.std.proofs.lemmas.List.Edits.{sets};
 ghost use Rattle.laws.specs.Table.{table};

@@ -1,5 +1,7 @@
 // An editor's switching table, as a script writes it (docs/TARIFF.md has the bytes): an entry goes into the first unused slot, two slots change places, a slot is written by hand. Nothing is judged here.
 // Every function takes any line and any table, and answers one number, as the library for C does, NONE for a line that is not understood.
+#![tactic(auto)]
+
 ghost use Rattle.std.specs.Prelude.{◌≤◌};
 ghost use Rattle.tariff.specs.Table.{slot_count};
 

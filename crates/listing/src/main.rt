@@ -1,4 +1,6 @@
 // Prints the listing of the block on standard input. The buffer is one byte longer than the longest input that is taken.
+#![tactic(auto)]
+
 use libc::STDOUT_FILENO;
 
 const ROOM: usize = lines::LONGEST_INPUT + 1;

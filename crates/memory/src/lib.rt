@@ -1,5 +1,7 @@
 // What a script keeps from line to line, all 0 at first, as the blank recorder has it: a row of numbers, the values, starts and marks of days, and bytes. A place is
 // the index of a number in row, values, starts and marks, one behind the other: none is written by hand. Every function takes any place and any memory.
+#![tactic(auto)]
+
 use parts::smaller;
 use store::Class;
 

@@ -1,5 +1,7 @@
 // A script's outstation, its store and the room of its switching table: how they are lent, a set-up, the events, and what is changed by hand, there and in the given fields. Every function takes any
 // line and any memory, and answers one number, as the library for C does, NONE for a line that is not understood.
+#![tactic(auto)]
+
 mod places;
 
 use memory::{Lent, Marks, Row, Starts, Table, Values};

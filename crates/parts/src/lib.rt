@@ -1,4 +1,6 @@
 // Parts of slices, and elements of them. Every function takes any numbers: a part has as many elements as there are, and an element that is not there is 0.
+#![tactic(auto)]
+
 ghost use Rattle.std.specs.Prelude.{◌≡◌, min, length, take, drop};
 ghost use Rattle.std.proofs.lemmas.List.Edits.{sets};
 ghost use Rattle.laws.specs.Table.{table};

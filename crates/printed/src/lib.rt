@@ -1,4 +1,6 @@
 // Answers as lines on standard output: numbers, an answer with what it carries, bytes in hexadecimal, a block's listing.
+#![tactic(auto)]
+
 ghost use Rattle.std.specs.Prelude.{◌<◌, ◌≤◌};
 
 use libc::STDOUT_FILENO;

@@ -1,5 +1,7 @@
 // The recorder of one circuit, by value, over a store of days that it is lent: its fields, their ranges, and what an event is answered. A call hands back the recorder, the answer
 // number and what it carries; a refusal leaves recorder and store as they were.
+#![tactic(auto)]
+
 ghost use Rattle.std.specs.Prelude.{◌≡◌, not, cond, ◌<◌, ◌≤◌, ltb};
 ghost use Rattle.laws.specs.Tests.{all_true};
 ghost use Rattle.calendar.specs.Clock.{times_in_all};

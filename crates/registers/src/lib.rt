@@ -1,4 +1,6 @@
 // The recorder's fields in their groups, each by value: the present, the running half-hour, energy and demand; and by how much the present is adjusted.
+#![tactic(auto)]
+
 ghost use Rattle.std.specs.Prelude.{◌≡◌, ◌/◌, ◌<◌, ◌≤◌, min};
 ghost use Rattle.quantity.specs.Units.{units, reading_of};
 ghost use Rattle.registers.specs.Energy.{Countable, running_from, energy_from, demand_since, weight_ok, rate_ok, rates_ok, energy_ok, pulses_of, added_of, most_added, units_with, energy_counted};

@@ -1,5 +1,7 @@
 // A recorder as a row of numbers, and a recorder or a header out of such a row: what a script shows and changes field by field. A header as a row is what the
 // library for C gives. Every function takes any row: a number that is not there is 0, and an output without room stays as it was.
+#![tactic(auto)]
+
 ghost use Rattle.std.specs.Prelude.{◌≡◌, [], ◌∷◌, ◌+◌, ◌<◌, ◌≤◌, length};
 ghost use Rattle.std.proofs.lemmas.List.Edits.{sets};
 ghost use Rattle.laws.specs.Table.{table};

@@ -1,5 +1,7 @@
 // The words of a script, and what they name: numbers, days, times, bytes in hexadecimal; `names` has the words themselves, `limits` the largest numbers. Every
 // function has an answer for every input.
+#![tactic(auto)]
+
 pub mod limits;
 pub mod names;
 

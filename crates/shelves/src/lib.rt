@@ -1,5 +1,7 @@
 // The blocks that a script keeps, and its ledger, as bytes: each block lies on a shelf of its own, and of the ledger the first bytes are lent. What makes or changes
 // one answers one number, as the library for C does, NONE for a line that is not understood, and the row has the lengths. Every function takes any memory.
+#![tactic(auto)]
+
 pub mod book;
 mod given;
 pub mod sent;

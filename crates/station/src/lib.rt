@@ -1,5 +1,7 @@
 // An outstation that is a row of numbers: it is set up, takes what happens and is read out, and a header's row is written. Each answers one number, as the
 // library for C does. Every function takes any row and any memory.
+#![tactic(auto)]
+
 ghost use Rattle.std.specs.Prelude.{◌≡◌};
 ghost use Rattle.store.specs.Store.{store};
 ghost use Rattle.desk.specs.Given.{given};

@@ -1,1 +1,2 @@
 // Switching tables by themselves, reckoned by hand, as rows that are computed: specs/ has what is given and what is due, proofs/ says that they are equal, and there is no code.
+#![tactic(auto)]

@@ -1,5 +1,7 @@
 // A switching table in one lent byte slice (docs/TARIFF.md): judged when it is loaded, and asked for the rate at a second. The rate is found by two passes over the 88 slots, however much
 // time has gone by.
+#![tactic(auto)]
+
 ghost use Rattle.std.specs.Prelude.{◌≡◌, ◌<◌, ◌≤◌, length};
 ghost use Rattle.calendar.specs.Calendar.{days_in_all};
 ghost use Rattle.tariff.specs.Table.{days_of_week, table_size, slot_count, slot_at, slots_of, is_time, is_exception, is_default, minute_of};

@@ -1,5 +1,7 @@
 // An outstation with a switching table in loops, for desk/bench to time them: set-up with fixed values in a lent store of class d, a load, then so many events; or loads alone. It has a crate of
 // its own, apart from the recorder's loops, so that in each archive the recorder steps in one place. It is no part of the product.
+#![tactic(auto)]
+
 ghost use Rattle.std.specs.Prelude.{◌≡◌, ◌*◌};
 ghost use Rattle.laws.specs.Each.{for_to};
 ghost use Rattle.store.specs.Store.{store};

@@ -1,5 +1,7 @@
 // The recorder's events and its read in loops, for desk/bench to time them: set-up with fixed values in a lent store of class d, then so many events,
 // one after another, by the recorder's own entries. It is no part of the product.
+#![tactic(auto)]
+
 ghost use Rattle.std.specs.Prelude.{◌≡◌, ◌*◌};
 ghost use Rattle.laws.specs.Each.{for_to};
 ghost use Rattle.recorder.specs.Recorder.{mem};

@@ -1,4 +1,6 @@
 // Prints a week of the switching table on standard input, which stands behind the first day, YYMMDD, and a newline. The buffer is one byte longer than a day and a table.
+#![tactic(auto)]
+
 use libc::STDOUT_FILENO;
 
 const ROOM: usize = drawn::ASKED + tariff::TABLE + 1;
