@@ -9,21 +9,21 @@ ghost use Rattle.calendar.specs.Shift.{shift};
 ghost use Rattle.calendar.specs.Clock.{second_of, stamp_of, ended_at, ended_on};
 ghost use Rattle.calendar.specs.Digits.{date_digits, time_digits, day_on, seconds_on};
 
-#[derive(Drop)]
+#[derive(Clone, Copy)]
 pub struct Date {
     pub yy: u32,
     pub mm: u32,
     pub dd: u32,
 }
 
-#[derive(Drop)]
+#[derive(Clone, Copy)]
 pub enum Found {
     Day(u32),
     Unreal,
 }
 
 // A date and a time of day.
-#[derive(Drop)]
+#[derive(Clone, Copy)]
 pub struct Stamp {
     pub yy: u32,
     pub mm: u32,
@@ -33,14 +33,14 @@ pub struct Stamp {
     pub ss: u32,
 }
 
-#[derive(Drop)]
+#[derive(Clone, Copy)]
 pub enum Moment {
     At(u64),
     Unreal,
 }
 
 // The length that a number falls in, of lengths in a row, and its place there.
-#[derive(Drop)]
+#[derive(Clone, Copy)]
 pub struct Spot {
     pub which: u32,
     pub rest: u32,

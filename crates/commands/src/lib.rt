@@ -7,7 +7,7 @@ mod words;
 use script::{Said, names};
 
 // A command: what it is, the fewest and the most words behind its name, what the first of them is, and the largest that the first three numbers may be.
-#[derive(Drop)]
+#[derive(Clone, Copy)]
 struct Command(u64, usize, usize, u64, u64, u64, u64);
 
 // ---- what a command is, by what it may change: nothing, outstation and store or the given fields, blocks out of these or into them, blocks, the ledger, an editor's table

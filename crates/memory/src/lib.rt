@@ -158,7 +158,7 @@ pub fn put_at(
 
 // ---- how much of the store is lent
 
-#[derive(Drop)]
+#[derive(Clone, Copy)]
 pub struct Lent {
     pub values: usize,
     pub starts: usize,

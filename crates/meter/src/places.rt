@@ -4,15 +4,15 @@ ghost use Rattle.std.specs.Prelude.{◌<◌};
 use script::{Said, names};
 
 // A field: its place, its shape, and the largest number that it takes.
-#[derive(Drop)]
+#[derive(Clone, Copy)]
 struct Field(usize, u64, u64);
 
 // How a field is named: how many words are behind the command, the first index, how many indices there are, and how many places one is from the next.
-#[derive(Drop)]
+#[derive(Clone, Copy)]
 struct Shape(usize, u64, u64, u64);
 
 // Where a number is to lie, and the largest that may.
-#[derive(Drop)]
+#[derive(Clone, Copy)]
 pub struct Place {
     pub at: usize,
     pub most: u64,

@@ -20,14 +20,14 @@ use quantity::MilliwattHours;
 use registers::{Demand, Energy, Present, Running, Shift};
 use store::Class;
 
-#[derive(Drop)]
+#[derive(Clone, Copy)]
 pub struct Identity {
     pub identifier: [u8; 12],
     pub class: Class,
     pub weight: MilliwattHours,
 }
 
-#[derive(Drop)]
+#[derive(Clone, Copy)]
 pub struct Recorder {
     pub identity: Identity,
     pub clock: Present,
@@ -36,7 +36,7 @@ pub struct Recorder {
     pub running: Running,
 }
 
-#[derive(Drop)]
+#[derive(Clone, Copy)]
 pub enum Event {
     Count(u32),
     Clock(u64),
@@ -52,7 +52,7 @@ pub enum Event {
 }
 
 // What set-up, an event and a read hand back.
-#[derive(Drop)]
+#[derive(Clone, Copy)]
 pub struct Stepped {
     pub recorder: Recorder,
     pub answer: u32,
@@ -60,7 +60,7 @@ pub struct Stepped {
 }
 
 // What a recorder is set up with.
-#[derive(Drop)]
+#[derive(Clone, Copy)]
 pub struct SetUp {
     pub identifier: [u8; 12],
     pub class: Class,

@@ -33,7 +33,7 @@ fn less(a: u32, b: u32) -> u32
 }
 
 // The time that it is, if an event tells it, and whether the half-hour that runs before is marked.
-#[derive(Drop)]
+#[derive(Clone, Copy)]
 pub enum Told {
     Is(u64, bool),
     Not,

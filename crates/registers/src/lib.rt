@@ -15,7 +15,7 @@ mod adjust;
 use quantity::{CentiKilowatts, MilliwattHours, RegisterUnits};
 
 // The present time, whether power is on, and the days stored.
-#[derive(Drop)]
+#[derive(Clone, Copy)]
 pub struct Present {
     pub time: u64,
     pub on: bool,
@@ -23,14 +23,14 @@ pub struct Present {
 }
 
 // The running half-hour: the reading at its start, and its two marks.
-#[derive(Drop)]
+#[derive(Clone, Copy)]
 pub struct Running {
     pub base: RegisterUnits,
     pub reverse: bool,
     pub level2: bool,
 }
 
-#[derive(Drop)]
+#[derive(Clone, Copy)]
 pub struct Energy {
     pub total: MilliwattHours,
     pub last: u32,
@@ -38,7 +38,7 @@ pub struct Energy {
     pub rates: [MilliwattHours; 8],
 }
 
-#[derive(Drop)]
+#[derive(Clone, Copy)]
 pub struct Demand {
     pub current: CentiKilowatts,
     pub previous: CentiKilowatts,
@@ -48,7 +48,7 @@ pub struct Demand {
 }
 
 // By how many seconds the clock is adjusted.
-#[derive(Drop)]
+#[derive(Clone, Copy)]
 pub enum Shift {
     Ahead(u32),
     Back(u32),

@@ -16,14 +16,14 @@ use calendar::{Found, Moment};
 use format::Number;
 
 // A number of 32 bits.
-#[derive(Drop)]
+#[derive(Clone, Copy)]
 pub enum Small {
     Fits(u32),
     Not,
 }
 
 // A line: what it is, its name, how many words follow, and the numbers that these name in their order (0 where there is none).
-#[derive(Drop)]
+#[derive(Clone, Copy)]
 pub struct Said {
     pub kind: u64,
     pub name: u64,

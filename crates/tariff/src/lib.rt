@@ -54,7 +54,7 @@ pub const WEEKDAYS: u8 = 3;
 pub const DEFAULT: u8 = 4;
 
 // A slot's five bytes.
-#[derive(Drop)]
+#[derive(Clone, Copy)]
 pub struct Entry {
     pub kind: u8,
     pub daytype: u8,
@@ -64,7 +64,7 @@ pub struct Entry {
 }
 
 // A day's date and its weekday, Monday 1.
-#[derive(Drop)]
+#[derive(Clone, Copy)]
 pub struct Today {
     pub yy: u32,
     pub mm: u32,
@@ -284,7 +284,7 @@ fn applies(daytype: u8, clock: u32, e: Entry) -> bool
 }
 
 // Of the entry that rules, what matters: two numbers, so that the scan keeps them in registers.
-#[derive(Drop)]
+#[derive(Clone, Copy)]
 pub struct Ruler {
     pub kind: u8,
     pub daytype: u8,
@@ -323,7 +323,7 @@ fn ruling(l: &[u8], k: Today) -> Ruler
 }
 
 // Of the switching time in force, in the same way.
-#[derive(Drop)]
+#[derive(Clone, Copy)]
 pub struct Force {
     pub mark: u32,
     pub rate: u8,

@@ -15,7 +15,7 @@ use recorder::Event;
 use store::Class;
 
 // Which events come after the load, one after another; or loads.
-#[derive(Drop)]
+#[derive(Clone, Copy)]
 pub enum Course {
     Counts,
     Clocks(u32),

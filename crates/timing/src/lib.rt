@@ -21,7 +21,7 @@ pub const METER: [u8; 12] = [65, 66, 67, 88, 50, 52, 48, 48, 48, 48, 49, 55];
 pub const PULSE: u64 = 1000;
 
 // Which events come, one after another.
-#[derive(Drop)]
+#[derive(Clone, Copy)]
 pub enum Kind {
     Counts,
     Clocks(u32),

@@ -1,0 +1,17 @@
+use Rattle.calendar.proofs.Answers.{no_date, no_hour, no_minute, no_second, is_at_lem}
+use Rattle.calendar.proofs.second_of.Goals as goal
+
+pub returns-in_default : goal.returns-in_default
+returns-in_default c = search no_date
+
+pub returns-then-s-ge24 : goal.returns-then-s-ge24
+returns-then-s-ge24 c = search no_hour
+
+pub returns-then-s-ge60 : goal.returns-then-s-ge60
+returns-then-s-ge60 c = search no_minute
+
+pub returns-then-s-ge60-2 : goal.returns-then-s-ge60-2
+returns-then-s-ge60-2 c = search no_second
+
+pub returns : goal.returns
+returns c = search is_at_lem
