@@ -1,7 +1,7 @@
 -- Clashes: the same both ways, none in another order where there is none in one, and none only where each day and each time of a day type has one entry of a rank.
 -- Assumes nothing.
 use Prim.Native.Nat.{ℕ, ◌≤◌}
-use mathlib.Core.Path.{◌≡◌, refl, sym, ap, ◌∙◌}
+use mathlib.Core.Path.{◌≡◌, refl, sym, ap, ◌∙◌, ap₂}
 use mathlib.Core.Bool.{Bool, true, false, ◌&&◌, ◌||◌, false≢true}
 use mathlib.Core.Logic.{◌⊎◌, inl, inr, ⊎_elim}
 use mathlib.Core.List.Memᴰ
@@ -79,12 +79,19 @@ shuffle false true false s = refl
 shuffle false false true s = refl
 shuffle false false false s = refl
 
+swapped : (l : List Entry) (a b a' b' : Entry) → a ≡ b' → b ≡ a' → clash_in (a ∷ b ∷ l) ≡ clash_in (a' ∷ b' ∷ l)
+unfolding clash_in any_of
+swapped l a b a' b' p q =
+    let turned : clash_in (a ∷ b ∷ l) ≡ clash_in (b ∷ a ∷ l) =
+        shuffle (clash_in l) (any_of (clash b) l) (any_of (clash a) l) (clash a b)
+        ∙ ap (λ (w : Bool). (clash_in l || any_of (clash a) l) || (any_of (clash b) l || w)) (clash_sym a b) in
+    turned ∙ ap₂ (λ (x y : Entry). clash_in (x ∷ y ∷ l)) q p
+
 pub perm_clash : {es fs : List Entry} → Permᴰ es fs → clash_in es ≡ clash_in fs
 unfolding clash_in any_of
 perm_clash Permᴰ.nil = refl
 perm_clash (Permᴰ.cons {b = b} p d) = rw (p, perm_clash d, perm_any (clash b) d)
-perm_clash (Permᴰ.swap {a' = a'} {b' = b'} {l = l} p q) =
-    rw (p, q, clash_sym b' a') (shuffle (clash_in l) (any_of (clash a') l) (any_of (clash b') l) (clash a' b'))
+perm_clash (Permᴰ.swap {l = l} p q) = swapped l _ _ _ _ p q
 perm_clash (Permᴰ.trans c d) = perm_clash c ∙ perm_clash d
 
 -- ---- where none clash, two that would are one

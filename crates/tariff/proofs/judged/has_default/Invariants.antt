@@ -1,0 +1,10 @@
+use Rattle.tariff.specs.Table.{slots_to, any_of, is_default, slot_count}
+use mathlib.Core.Path.{◌≡◌}
+use Prim.Native.Nat.{◌-◌, ◌≤◌}
+use Rattle.tariff.proofs.judged.has_default.Given as goal
+
+abbrev pub invariant-loop-i : goal.invariant-loop-i
+invariant-loop-i l = (l.i ≤ slot_count) × (l.found ≡ any_of is_default (slots_to l.l l.i))
+
+abbrev pub decreases-loop-i : goal.decreases-loop-i
+decreases-loop-i l = slot_count - l.i

@@ -1,0 +1,12 @@
+use mathlib.Core.Path.{◌≡◌}
+use Prim.Native.Nat.{◌-◌, ◌≤◌}
+use Rattle.tariff.specs.Table.{slot_count, slots_to}
+use Rattle.tariff.specs.Rate.{ruled}
+use Rattle.tariff.specs.Scans.{ruler_of}
+use Rattle.tariff.proofs.ruling.Given as goal
+
+abbrev pub invariant-loop-i : goal.invariant-loop-i
+invariant-loop-i l = (l.i ≤ slot_count) × (l.best ≡ ruler_of (ruled l.k (slots_to l.l l.i)))
+
+abbrev pub decreases-loop-i : goal.decreases-loop-i
+decreases-loop-i l = slot_count - l.i
