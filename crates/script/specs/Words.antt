@@ -1,8 +1,7 @@
 -- Lines and words of a script (docs/REPLAY.md, "The script"): a line ends before a newline, a word before a space.
-use Rattle.std.specs.Prelude.{ℕ, zero, suc, ◌+◌, cond, List, eqb, leb, length, take, drop, get_or}
+use Rattle.std.specs.Prelude.{ℕ, zero, suc, ◌+◌, cond, List, [], ◌∷◌, eqb, leb, length, take, drop, get_or}
 use Rattle.laws.specs.Bits.{bit}
 use Rattle.laws.specs.Tests.{sum_below}
-use Rattle.bytes.specs.Bytes.{index_of}
 use Rattle.format.specs.Numbers.{binary, num_at}
 
 abbrev pub space : ℕ
@@ -10,6 +9,11 @@ space = 32
 
 abbrev pub newline : ℕ
 newline = 10
+
+-- where the byte b first stands in a list: the list's length where it does not
+unfoldable pub index_of : ℕ → List ℕ → ℕ
+index_of b [] = zero
+index_of b (x ∷ s) = cond (eqb x b) zero (suc (index_of b s))
 
 -- where the line that begins at index i of the text ends
 unfoldable pub line_end : List ℕ → ℕ → ℕ

@@ -8,7 +8,7 @@ pub mod names;
 ghost use Rattle.std.specs.Prelude.{◌≡◌, max, ◌+◌, ◌-◌, ◌*◌, ◌<◌, ◌≤◌, length, drop};
 ghost use Rattle.laws.specs.Bits.{bit};
 ghost use Rattle.calendar.specs.Digits.{day_on, seconds_on};
-ghost use Rattle.script.specs.Words.{line_end, after, word_at, arguments_in, name_of};
+ghost use Rattle.script.specs.Words.{index_of, line_end, after, word_at, arguments_in, name_of};
 ghost use Rattle.script.specs.Hex.{is_hex, sixteenth, letter_of, hex_ok, byte_in, unhexing, unhexed, letter_at, hexing, hexed};
 ghost use Rattle.script.specs.Numbers.{number_of, small_of, six_of, if_date, day_named, second_named, joined, time_named, or_none, small_or_none};
 
@@ -48,6 +48,21 @@ const MOST_DIGITS: usize = 18;
 
 // ---- lines and words
 
+// Where the byte b first stands from an index of the text on: the text's length where it does not.
+fn find(text: &[u8], from: usize, b: u8) -> usize
+    requires { from ≤ length text.now }
+    ensures { (result ≡ from + index_of b (drop from text.now)) × (from ≤ result) × (result ≤ length text.now) }
+{
+    let mut i = from;
+    while i < text.len() {
+        if text[i] == b {
+            return i;
+        }
+        i += 1;
+    }
+    i
+}
+
 // Where the line that begins at an index of the text ends.
 pub fn line_end(text: &[u8], from: usize) -> usize
     ensures { (result ≡ line_end text.now from) × (from ≤ result) × (result ≤ max from (length text.now)) }
@@ -55,7 +70,7 @@ pub fn line_end(text: &[u8], from: usize) -> usize
     if text.len() < from {
         return from;
     }
-    bytes::scan::find(text, from, text.len(), NEWLINE)
+    find(text, from, NEWLINE)
 }
 
 fn bit(b: bool) -> usize
@@ -84,7 +99,7 @@ fn word_start(line: &[u8], k: usize) -> usize
     let mut from: usize = 0;
     let mut j: usize = 0;
     while j < k {
-        let end = bytes::scan::find(line, from, line.len(), SPACE);
+        let end = find(line, from, SPACE);
         if end == line.len() {
             return end;
         }
@@ -99,7 +114,7 @@ pub fn word(line: &[u8], k: usize) -> &[u8]
     ensures { result.now ≡ word_at k line.now }
 {
     let from = word_start(line, k);
-    let end = bytes::scan::find(line, from, line.len(), SPACE);
+    let end = find(line, from, SPACE);
     &line[from..end]
 }
 
