@@ -1,7 +1,7 @@
 // Prints the listing of the block on standard input. The buffer is one byte longer than the longest input that is taken.
 #![tactic(auto)]
 
-use libc::STDOUT_FILENO;
+const STANDARD_OUTPUT: i32 = 1;
 
 const ROOM: usize = lines::LONGEST_INPUT + 1;
 
@@ -9,7 +9,7 @@ const TEXT: usize = lines::LONGEST_TEXT;
 
 fn show_part(out: &[u8], k: usize) {
     if k <= out.len() {
-        io::write_all(STDOUT_FILENO, &out[..k]);
+        io::write_all(STANDARD_OUTPUT, &out[..k]);
     }
 }
 

@@ -3,7 +3,7 @@
 
 ghost use Rattle.std.specs.Prelude.{◌<◌, ◌≤◌};
 
-use libc::STDOUT_FILENO;
+const STANDARD_OUTPUT: i32 = 1;
 
 // A text has room for the longest listing. Bytes in hexadecimal are printed in parts that fill it.
 const TEXT: usize = lines::LONGEST_TEXT;
@@ -11,11 +11,11 @@ const TEXT: usize = lines::LONGEST_TEXT;
 const PART: usize = TEXT / 2;
 
 pub fn text(bytes: &[u8]) {
-    io::write_all(STDOUT_FILENO, bytes);
+    io::write_all(STANDARD_OUTPUT, bytes);
 }
 
 pub fn number(x: u64) {
-    io::print_decimal(STDOUT_FILENO, x);
+    io::print_decimal(STANDARD_OUTPUT, x);
 }
 
 // A space and a number.

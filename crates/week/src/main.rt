@@ -1,7 +1,7 @@
 // Prints a week of the switching table on standard input, which stands behind the first day, YYMMDD, and a newline. The buffer is one byte longer than a day and a table.
 #![tactic(auto)]
 
-use libc::STDOUT_FILENO;
+const STANDARD_OUTPUT: i32 = 1;
 
 const ROOM: usize = drawn::ASKED + tariff::TABLE + 1;
 
@@ -9,7 +9,7 @@ const TEXT: usize = drawn::LONGEST_WEEK;
 
 fn show_part(out: &[u8], k: usize) {
     if k <= out.len() {
-        io::write_all(STDOUT_FILENO, &out[..k]);
+        io::write_all(STANDARD_OUTPUT, &out[..k]);
     }
 }
 

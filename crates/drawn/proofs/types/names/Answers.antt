@@ -1,0 +1,7 @@
+use mathlib.Core.Path.{refl}
+use Rattle.drawn.specs.Week.{names}
+use Rattle.drawn.proofs.types.names.Goals as goal
+
+pub returns : goal.returns
+unfolding names
+returns c = refl

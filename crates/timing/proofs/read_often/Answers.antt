@@ -1,0 +1,14 @@
+use native.Mathlib.Omega.{arith}
+use Rattle.timing.specs.Timed.{reads_of}
+use Rattle.timing.proofs.Laws.{going_none, read_on, going_done}
+use Rattle.timing.proofs.read_often.Goals as goal
+
+pub loop-i-init : goal.loop-i-init
+loop-i-init c = (omega arith, omega arith, omega arith, search going_none)
+
+pub loop-i-preserved : goal.loop-i-preserved
+loop-i-preserved c = (omega arith, omega arith, omega arith, search read_on)
+
+pub returns : goal.returns
+unfolding reads_of
+returns c = search going_done
