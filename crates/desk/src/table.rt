@@ -6,8 +6,7 @@ ghost use Rattle.desk.specs.Tables.{table_number, rate_number, give_week};
 use crate::one_number;
 
 // A table judged: 6, 14 or 0.
-#[unsafe(no_mangle)]
-pub extern "C" fn cop6_table_judge(table: &[u8]) -> u64
+pub fn cop6_table_judge(table: &[u8]) -> u64
     ensures { result ≡ table_number table.now }
 {
     let a = tariff::judge(table);
@@ -15,8 +14,7 @@ pub extern "C" fn cop6_table_judge(table: &[u8]) -> u64
 }
 
 // The rate at a second: 6 for the time, or the table; 14; or 0 with the rate.
-#[unsafe(no_mangle)]
-pub extern "C" fn cop6_table_rate(table: &[u8], time: u64) -> u64
+pub fn cop6_table_rate(table: &[u8], time: u64) -> u64
     ensures { result ≡ rate_number table.now time }
 {
     if calendar::TIMES_IN_ALL <= time {
@@ -31,8 +29,7 @@ pub extern "C" fn cop6_table_rate(table: &[u8], time: u64) -> u64
 }
 
 // A week as text: 6 for the day, or the table; 14; 7 with the bytes of the text, or 0 with them.
-#[unsafe(no_mangle)]
-pub extern "C" fn cop6_table_week(table: &[u8], day: u32, out: &mut [u8]) -> u64
+pub fn cop6_table_week(table: &[u8], day: u32, out: &mut [u8]) -> u64
     ensures { given out.new result ≡ give_week table.now day out.old }
 {
     let a = drawn::week(table, day, out);

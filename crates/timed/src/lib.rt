@@ -104,8 +104,7 @@ fn played(
 }
 
 // A load, and n - 1 Counts of one pulse each; the total afterwards.
-#[unsafe(no_mangle)]
-pub extern "C" fn timed_tariff_counts(
+pub fn timed_tariff_counts(
     values: &mut [u16],
     starts: &mut [u32],
     marks: &mut [u64],
@@ -122,8 +121,7 @@ pub extern "C" fn timed_tariff_counts(
 }
 
 // A load, and n - 1 Clocks, each so many seconds on; the time afterwards.
-#[unsafe(no_mangle)]
-pub extern "C" fn timed_tariff_clocks(
+pub fn timed_tariff_clocks(
     values: &mut [u16],
     starts: &mut [u32],
     marks: &mut [u64],
@@ -141,8 +139,7 @@ pub extern "C" fn timed_tariff_clocks(
 }
 
 // n loads; the active rate afterwards.
-#[unsafe(no_mangle)]
-pub extern "C" fn timed_tariff_loads(
+pub fn timed_tariff_loads(
     values: &mut [u16],
     starts: &mut [u32],
     marks: &mut [u64],

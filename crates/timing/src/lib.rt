@@ -105,8 +105,7 @@ fn played(kind: Kind, values: &mut [u16], starts: &mut [u32], marks: &mut [u64],
 }
 
 // n Counts of one pulse each; the total afterwards.
-#[unsafe(no_mangle)]
-pub extern "C" fn timed_counts(
+pub fn timed_counts(
     values: &mut [u16],
     starts: &mut [u32],
     marks: &mut [u64],
@@ -120,8 +119,7 @@ pub extern "C" fn timed_counts(
 }
 
 // n Clocks, each so many seconds on; the time afterwards.
-#[unsafe(no_mangle)]
-pub extern "C" fn timed_clocks(
+pub fn timed_clocks(
     values: &mut [u16],
     starts: &mut [u32],
     marks: &mut [u64],
@@ -136,8 +134,7 @@ pub extern "C" fn timed_clocks(
 }
 
 // n events of outages, Off and On in turn, each outage so many seconds long; the time afterwards.
-#[unsafe(no_mangle)]
-pub extern "C" fn timed_outages(
+pub fn timed_outages(
     values: &mut [u16],
     starts: &mut [u32],
     marks: &mut [u64],
@@ -172,8 +169,7 @@ fn read_often(
 }
 
 // A Clock to a second, and n reads of all days; the bytes that they gave, added up.
-#[unsafe(no_mangle)]
-pub extern "C" fn timed_reads(
+pub fn timed_reads(
     values: &mut [u16],
     starts: &mut [u32],
     marks: &mut [u64],
