@@ -1,4 +1,3 @@
-use native.Mathlib.Omega.{arith}
 use Rattle.script.proofs.Words.{looking_none, looking_on, found_here, found_none}
 use Rattle.script.proofs.find.Goals as goal
 
