@@ -1,7 +1,7 @@
 -- The class's complete days are stored whole, and sent by a read that asks for one day more.
 -- Assumes nothing.
-use Prim.Native.Nat.{ℕ, suc, ◌+◌, ◌-◌, ◌/◌, ◌<◌, ◌≤◌}
-use mathlib.Core.Path.{◌≡◌, refl, sym, ap, ◌∙◌}
+use Prim.Native.Nat.{ℕ, suc, ◌+◌, ◌/◌, ◌<◌, ◌≤◌}
+use mathlib.Core.Path.{◌≡◌, sym, ap, ◌∙◌}
 use mathlib.Core.Bool.{true}
 use mathlib.Core.List.{List, []}
 use native.Mathlib.Omega.{arith}
@@ -21,18 +21,16 @@ use Rattle.store.specs.Store.{Store}
 use Rattle.store.proofs.Complete.{has_room}
 use Rattle.recorder.specs.declared.SetUp.{SetUp}
 use Rattle.recorder.specs.declared.Event.{Event}
-use Rattle.recorder.specs.Recorder.{Mem}
-use Rattle.recorder.specs.Step.{run}
 use Rattle.recorder.specs.SetUp.{set_up}
 use Rattle.recorder.proofs.Answers.{days_few}
-use Rattle.readout.specs.Read.{most_asked, read_of}
-use Rattle.assurance.specs.Paper.{Paper, now, today, history_of}
+use Rattle.readout.specs.Read.{most_asked}
+use Rattle.assurance.specs.Paper.{Paper, today, history_of}
 use Rattle.assurance.specs.Written.{paper, written_all}
-use Rattle.assurance.specs.Sent.{days_due, fields_due, block_due, read_due, sent_due}
-use Rattle.assurance.specs.Run.{Call, run_all, events_of, block_of}
+use Rattle.assurance.specs.Sent.{days_due, fields_due, read_due, sent_due}
+use Rattle.assurance.specs.Run.{Call, events_of, block_of}
 use Rattle.assurance.specs.Complete.{end, Complete, asked, read_all, AllComplete}
 use Rattle.assurance.specs.Life.{DayStored}
-use Rattle.assurance.proofs.Kept.{Given, Stored, Kept}
+use Rattle.assurance.proofs.Kept.{Given, Kept}
 use Rattle.assurance.proofs.Start.{given}
 use Rattle.assurance.proofs.Run.{kept}
 use Rattle.assurance.proofs.Past.{past_all}

@@ -58,7 +58,7 @@ use Rattle.assurance.specs.Paper.{Counts, Paper, total_at, units_of, history_of}
 use Rattle.assurance.specs.Written.{written, blank_paper, written_all, paper}
 use Rattle.assurance.specs.Sent.{days_due, fields_due}
 use Rattle.assurance.specs.Run.{Call, events_of, blocks_in}
-use Rattle.assurance.specs.Delivered.{answers_all, carried_all, held_on, past, counted, Drawn, Summed, opened, filed, DayTold, HalfTold, Sender, when_read, Gave, DayRead, HalfRead, DayHeld, Holds}
+use Rattle.assurance.specs.Delivered.{answers_all, carried_all, held_on, counted, Drawn, Summed, opened, filed, DayTold, HalfTold, Sender, when_read, Gave, DayRead, HalfRead, DayHeld, Holds}
 use Rattle.assurance.proofs.Kept.{Given, Kept}
 use Rattle.assurance.proofs.Start.{given, made_kept}
 use Rattle.assurance.proofs.Run.{kept, run_kept}

@@ -2,9 +2,8 @@
 -- Assumes nothing.
 use mathlib.Core.Path.{◌≡◌, refl, sym, ap, ◌∙◌}
 use mathlib.Core.List.{List, [], ◌∷◌, ◌++◌, append_assoc}
-use Prim.Native.Nat.{ℕ, zero, suc, ◌<◌, ◌≤◌, ◌+◌, ◌-◌, ◌*◌}
+use Prim.Native.Nat.{ℕ, zero, suc, ◌<◌, ◌≤◌, ◌-◌}
 use native.Mathlib.Omega.{arith}
-use lib.Dec.{eqb}
 use lib.ListN.{length, get_or, length-append}
 use lib.Seq.{sets}
 use borrow.Author.Tests.{eqb-true, eq-eqb, ne_eqb}
@@ -17,19 +16,19 @@ use Rattle.block.specs.Answers.{answer, answer_of}
 use Rattle.block.specs.declared.Answer.{Answer}
 use Rattle.block.specs.declared.Header.{Header}
 use Rattle.days.specs.Day.{flags_of}
-use Rattle.ledger.specs.Layout.{head_size, room_at, first_of, state_in, flags_in}
+use Rattle.ledger.specs.Layout.{room_at, first_of, state_in, flags_in}
 use Rattle.ledger.specs.Rooms.{day_with, day_at, slot}
-use Rattle.ledger.specs.Judged.{flags_ok, room_ok, judged}
-use Rattle.ledger.specs.Asked.{asked, missing_of}
+use Rattle.ledger.specs.Judged.{flags_ok, judged}
+use Rattle.ledger.specs.Asked.{missing_of}
 use Rattle.ledger.specs.declared.MissingAnswer.{MissingAnswer}
 use Rattle.ledger.proofs.Good.{Sound, sound, judged_good}
 use Rattle.filing.specs.File.{read_of}
 use Rattle.filing.specs.Differs.{differs_of}
 use Rattle.filing.specs.declared.Difference.{Difference}
 use Rattle.fields.specs.Views.{header_in}
-use Rattle.desk.specs.Numbers.{one_number, number_of, flags_number}
+use Rattle.desk.specs.Numbers.{one_number, flags_number}
 use Rattle.format.specs.Identifier.{letter_of}
-use Rattle.desk.specs.Given.{given, give_row, give_found, header_numbers, rate_of, totals_row, header_row, give_header, difference_row, give_differs, give_identifier}
+use Rattle.desk.specs.Given.{given, give_found, header_numbers, rate_of, totals_row, header_row, give_header, difference_row, give_differs, give_identifier}
 use Rattle.laws.proofs.Rows.{row_side}
 use Rattle.desk.proofs.Laws.{row_refused, row_short, row_given, answer_asked, halves_asked}
 

@@ -6,21 +6,20 @@ use mathlib.Core.List.{List, [], ◌∷◌}
 use Prim.Native.Nat.{ℕ, zero, suc, ◌<◌, ◌≤◌, ◌+◌, ◌-◌, ◌*◌}
 use native.Mathlib.Omega.{arith}
 use lib.Dec.{eqb}
-use lib.ListN.{length, set, length-set}
+use lib.ListN.{length}
 use lib.Seq.{sets}
 use borrow.Author.Tests.{eqb-true, eq-eqb, ne_eqb, lt-ltb, le-ltb, lt-leb, le-leb}
 use Rattle.laws.specs.Bits.{bit}
 use Rattle.laws.specs.Table.{table}
 use Rattle.laws.proofs.Split.{by_test}
 use Rattle.laws.proofs.Table.{length_table, table_at}
-use Rattle.laws.proofs.Rows.{none_stored, row_next}
 use Rattle.quantity.specs.declared.RegisterUnits.{RegisterUnits}
 use Rattle.quantity.specs.Units.{units, last_four, advance}
 use Rattle.calendar.specs.declared.Found.{Found}
 use Rattle.marks.specs.Marks.{marked}
 use Rattle.profile.specs.Profile.{before_at, advance_at}
 use Rattle.block.specs.declared.Answer.{Answer}
-use Rattle.days.specs.Day.{Half, held, no_half, half_at, count}
+use Rattle.days.specs.Day.{Half, no_half, half_at, count}
 use Rattle.days.specs.Energy.{values, advance_in}
 use Rattle.ledger.specs.Layout.{head_size, room_size, room_at, first_of, days_of, state_in, start_in, value_in, reverse_in, level2_in}
 use Rattle.ledger.specs.Rooms.{half_in, day_with, day_at, slot}

@@ -1,8 +1,7 @@
 -- Switching tables: what each return says.
 -- Assumes nothing.
 use Prim.Native.Nat.{ℕ, ◌≤◌, ◌<◌}
-use mathlib.Core.Path.{◌≡◌, refl, sym, ap, ◌∙◌}
-use mathlib.Core.Bool.{cond}
+use mathlib.Core.Path.{◌≡◌, ap, ◌∙◌}
 use mathlib.Core.List.{List}
 use lib.Dec.{eqb, leb}
 use lib.ListN.{length}
@@ -18,7 +17,7 @@ use Rattle.drawn.specs.Week.{week_text}
 use Rattle.drawn.specs.Asked.{week_judged, week_answer, week_shown}
 use Rattle.desk.specs.Numbers.{one_number}
 use Rattle.desk.specs.Given.{given, give_row}
-use Rattle.desk.specs.Tables.{table_number, rate_judged, rate_number, give_week}
+use Rattle.desk.specs.Tables.{rate_judged, rate_number, give_week}
 
 -- ---- the rate
 

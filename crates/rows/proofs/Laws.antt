@@ -19,7 +19,6 @@ use Rattle.quantity.specs.Units.{milliwatt_hours, units, kilowatt_hours, centi_k
 use Rattle.format.specs.Identifier.{letter_of}
 use Rattle.store.specs.declared.Class.{Class}
 use Rattle.store.specs.declared.Class.TheVariants.{A, B, C, D, Blank}
-use Rattle.block.specs.declared.Header.{Header}
 use Rattle.registers.specs.declared.Demand.{Demand}
 use Rattle.registers.specs.declared.Energy.{Energy}
 use Rattle.registers.specs.declared.Present.{Present}

@@ -23,7 +23,7 @@ use Rattle.format.specs.declared.Number.TheVariants.{Is, Bad}
 use Rattle.script.specs.declared.Small.{Small}
 use Rattle.script.specs.declared.Small.TheVariants.{Fits, Not}
 use Rattle.script.specs.Words.{word_at, name_of}
-use Rattle.script.specs.Numbers.{number_of, fitted, small_of, six_of, if_found, if_date, at, day_named, if_moment, joined, second_named, time_named, or_none, small_or_none}
+use Rattle.script.specs.Numbers.{number_of, fitted, small_of, six_of, if_found, if_date, day_named, if_moment, joined, second_named, time_named, or_none, small_or_none}
 
 module _ (w : List ℕ) where
   pub no_digit : length w < 1 → Bad ≡ number_of w

@@ -83,8 +83,8 @@ swapped : (l : List Entry) (a b a' b' : Entry) → a ≡ b' → b ≡ a' → cla
 unfolding clash_in any_of
 swapped l a b a' b' p q =
     let turned : clash_in (a ∷ b ∷ l) ≡ clash_in (b ∷ a ∷ l) =
-        shuffle (clash_in l) (any_of (clash b) l) (any_of (clash a) l) (clash a b)
-        ∙ ap (λ (w : Bool). (clash_in l || any_of (clash a) l) || (any_of (clash b) l || w)) (clash_sym a b) in
+    shuffle (clash_in l) (any_of (clash b) l) (any_of (clash a) l) (clash a b)
+    ∙ ap (λ (w : Bool). (clash_in l || any_of (clash a) l) || (any_of (clash b) l || w)) (clash_sym a b) in
     turned ∙ ap₂ (λ (x y : Entry). clash_in (x ∷ y ∷ l)) q p
 
 pub perm_clash : {es fs : List Entry} → Permᴰ es fs → clash_in es ≡ clash_in fs
