@@ -10,7 +10,7 @@ use native.Mathlib.Omega.{arith}
 use borrow.Author.Tests.{eq-eqb, ne_eqb}
 use Rattle.laws.specs.Each.{for_to}
 use Rattle.laws.proofs.Loop.{for_on, for_done}
-use Rattle.store.specs.Store.{Store, store}
+use Rattle.store.specs.Store.{Store}
 use Rattle.recorder.specs.declared.Event.{Event}
 use Rattle.recorder.specs.declared.Event.TheVariants.{Off, On}
 use Rattle.recorder.specs.declared.Stepped.{Stepped}

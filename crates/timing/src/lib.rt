@@ -105,12 +105,7 @@ fn played(kind: Kind, values: &mut [u16], starts: &mut [u32], marks: &mut [u64],
 }
 
 // n Counts of one pulse each; the total afterwards.
-pub fn timed_counts(
-    values: &mut [u16],
-    starts: &mut [u32],
-    marks: &mut [u64],
-    n: u32,
-) -> u64
+pub fn timed_counts(values: &mut [u16], starts: &mut [u32], marks: &mut [u64], n: u32) -> u64
     ensures { totalled result (store values.new starts.new marks.new)
         ≡ total_of (played Counts n (store values.old starts.old marks.old)) }
 {
