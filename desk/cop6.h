@@ -1,7 +1,7 @@
 /* The desk's library: blocks read from outstations, the ledger of one meter, the listing, tariff switching tables.
  *
  * Link libcop6.a: desk/build proves it and writes target/desk/libcop6.a, desk/install puts it, this header and a pkg-config file where they belong. Every
- * function in it is proved against its contract in crates/desk/src/lib.rt. It takes any bytes and any numbers, asks for no memory, keeps nothing between
+ * function in it is proved against its contract in crates/desk_c/src/lib.rt. It takes any bytes and any numbers, asks for no memory, keeps nothing between
  * calls, and may be called from several threads as long as no two of them are lent the same memory that one of them changes.
  *
  * What is lent: a pointer and how many elements it has. A pointer may be null where that number is 0. Two slices lent to one call must not overlap.

@@ -1,4 +1,5 @@
-/* The loops of crates/timing and crates/timed, for the benchmark alone: `rt staticlib` proves each and writes its archive in target/staticlib. desk/plain.h says what they do; of those with a
+/* The loops of crates/timing and crates/timed, for the benchmark alone: `rt lib` in crates/timing_c and
+   crates/timed_c proves each and writes its archive. desk/plain.h says what they do; of those with a
    table n counts the load, which comes first. */
 #ifndef TIMING_H
 #define TIMING_H
