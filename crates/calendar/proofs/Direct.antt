@@ -14,6 +14,7 @@ use Rattle.calendar.specs.Calendar.{days_in_all, leap_day, year_length, months, 
 use Rattle.calendar.specs.Shift.{before_march, shift}
 use Rattle.calendar.proofs.Lengths.{leap_le, years_before, all_years}
 use Rattle.calendar.proofs.Place.{place_of, place_fits, sum_one}
+use Rattle.calendar.proofs.Months.{month_of, before}
 
 -- ---- the year
 
@@ -43,12 +44,6 @@ shift_here l n h = rw (lt-ltb n (before_march l) h)
 pub shift_on : (l n : ℕ) → before_march l ≤ n → n + (2 - l) ≡ shift l n
 unfolding shift
 shift_on l n h = rw (le-ltb n (before_march l) h)
-
-abbrev month_of : ℕ → ℕ
-month_of s = (12 * s + 6) / 367
-
-abbrev before : ℕ → ℕ
-before i = (367 * i + 5) / 12
 
 -- a day of a year has its month by the formula: tried on every day of a common and of a leap year
 right : ℕ → ℕ → Bool

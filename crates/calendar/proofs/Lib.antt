@@ -1,5 +1,6 @@
 pub mod Lengths
 pub mod Place
+pub mod Months
 pub mod Direct
 pub mod Dates
 pub mod Answers
