@@ -18,7 +18,7 @@ use Rattle.laws.proofs.Checks.{passed_first}
 use Rattle.laws.proofs.Split.{by_test, by_dec}
 use Rattle.laws.proofs.Tests.{sum_same}
 use Rattle.calendar.specs.Clock.{seconds_of_half, halves_of_day, ended_on}
-use Rattle.block.specs.declared.Answer.{Answer}
+use Rattle.answers.specs.Answer.{Answer}
 use Rattle.block.specs.Fields.{ident_in}
 use Rattle.block.specs.Parse.{fields, parse}
 use Rattle.format.specs.Numbers.{binary, num_at}

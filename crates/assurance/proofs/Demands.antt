@@ -4,7 +4,7 @@ use Prim.Native.Nat.{ℕ}
 use mathlib.Core.Path.{◌≡◌, refl, sym, ap, ◌∙◌}
 use mathlib.Core.List.{List}
 use lib.ListN.{length, take}
-use Rattle.block.specs.declared.Answer.{Answer}
+use Rattle.answers.specs.Answer.{Answer}
 use Rattle.block.specs.declared.Header.{Header}
 use Rattle.block.specs.Parse.{fields, parse}
 use Rattle.block.proofs.Trip.{accepted_reads, parse_back, reads_accepted}

@@ -13,7 +13,7 @@ use Rattle.laws.proofs.Split.{by_test}
 use Rattle.laws.proofs.Table.{table_at}
 use Rattle.quantity.specs.Units.{kilowatt_hours}
 use Rattle.format.specs.Numbers.{binary, num_at, good_at}
-use Rattle.block.specs.declared.Answer.{Answer}
+use Rattle.answers.specs.Answer.{Answer}
 use Rattle.block.specs.Layout.{is_identifier}
 use Rattle.block.specs.Parse.{fields, parse}
 use Rattle.block.proofs.Checking.{ident_ok_lem}

@@ -131,11 +131,10 @@ module _ (s : SetUp) (z : Given s) (p : Paper) (x : Mem) (k : Kept s p x) where
   rates_fit : ok_values rate_fields (rates_of h) ≡ true
   unfolding header_due
   rates_fit =
-      sym (rates_all h.rates 8 true eight
+      sym (rates_all h.rates true eight
       (sym (all_of (rate_fits h.rates) 8 (λ i l.
       rw (rate_at_lem h.rates i, table_at 8 (λ i. kwh_of (milliwatt_hours (c.rate i % total_round))) i (kilowatt_hours 0) l)
-      (sym (small (c.rate i % total_round / kwh_of_unit) (kwh_few (c.rate i)))))))
-      (omega arith) (omega arith))
+      (sym (small (c.rate i % total_round / kwh_of_unit) (kwh_few (c.rate i))))))))
 
   pub head_fits_lem : (n : ℕ) → n ≤ most_days → head_fits h n ≡ true
   unfolding header_due

@@ -6,17 +6,15 @@ use Rattle.laws.specs.Bits.{bit}
 use Rattle.laws.specs.Tests.{sum_below}
 use Rattle.calendar.specs.Clock.{seconds_of_half, seconds_of_day, halves_of_day, ended_on}
 use Rattle.format.specs.Identifier.{SameMeter, ppp_of, with_ppp}
-use Rattle.block.specs.declared.Answer.{Answer}
+use Rattle.answers.specs.Answer.{Answer}
 use Rattle.profile.specs.Profile.{advance_at}
 use Rattle.days.specs.Day.{History, Day, absent, is_held, start_of, flags_of, half_at, count}
 use Rattle.days.specs.View.{Carries}
 use Rattle.days.specs.Energy.{advances, Unbroken, Within}
-use Rattle.ledger.specs.declared.MissingAnswer.{MissingAnswer}
-use Rattle.ledger.specs.declared.SummaryAnswer.{SummaryAnswer}
 use Rattle.ledger.specs.Layout.{first_of}
 use Rattle.ledger.specs.Rooms.{slot}
 use Rattle.ledger.specs.Open.{open_of}
-use Rattle.ledger.specs.Asked.{in_window, summary_of, missing_of}
+use Rattle.ledger.specs.Asked.{in_window, SummaryAnswer, summary_of, MissingAnswer, missing_of}
 use Rattle.rooms.specs.View.{view_of}
 use Rattle.filing.specs.File.{file_of}
 use Rattle.kept.specs.Desk.{file_all}

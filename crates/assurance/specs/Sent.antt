@@ -7,7 +7,7 @@ use Rattle.laws.specs.Table.{table}
 use Rattle.quantity.specs.Units.{total_round, demand_round, milliwatt_hours, centi_kilowatts, kwh_of}
 use Rattle.calendar.specs.Clock.{seconds_of_day, halves_of_day, ended_on}
 use Rattle.profile.specs.Profile.{fill_after}
-use Rattle.block.specs.declared.Answer.{Answer}
+use Rattle.answers.specs.Answer.{Answer}
 use Rattle.block.specs.declared.Header.{Header}
 use Rattle.block.specs.Answers.{answer}
 use Rattle.block.specs.Layout.{block_bytes, render_block}

@@ -1,5 +1,6 @@
--- Day numbers and real dates are one to one.
+-- Some numbers and real dates are one to one.
 -- Assumes nothing.
+use Rattle.std.specs.Prelude.{Some, None}
 use mathlib.Core.Path.{◌≡◌, refl, ap}
 use mathlib.Core.Bool.{Bool, true, false, cond, ◌&&◌}
 use Prim.Native.Nat.{ℕ, ◌+◌, ◌-◌, ◌≤◌, ◌<◌}
@@ -10,18 +11,17 @@ use Rattle.laws.specs.Tests.{sum_below}
 use Rattle.laws.proofs.Bools.{both}
 use Rattle.laws.proofs.Tests.{sum_none}
 use Rattle.calendar.specs.declared.Spot.{Spot}
-use Rattle.calendar.specs.declared.Found.TheVariants.{Day, Unreal}
 use Rattle.calendar.specs.Calendar.{days_in_all, place, leap_day, year_length, months, month_length, real_date, day_number, day_of, in_month, in_year, date_of}
 use Rattle.calendar.proofs.Lengths.{month_le, all_years, all_months}
 use Rattle.calendar.proofs.Place.{place_sum, place_le, place_fits, place_of, sum_one, sum_up}
 
 -- ---- worked cases
 
-pub real_240229 : day_of 24 2 29 ≡ Day 8825
+pub real_240229 : day_of 24 2 29 ≡ Some 8825
 unfolding day_of real_date day_number sum_below year_length months month_length leap_day
 real_240229 = refl
 
-pub unreal_230229 : day_of 23 2 29 ≡ Unreal
+pub unreal_230229 : day_of 23 2 29 ≡ None
 unfolding day_of real_date months month_length leap_day
 unreal_230229 = refl
 
@@ -120,26 +120,26 @@ module _ (d : ℕ) (h : d < days_in_all) where
       let e : m.which + 1 - 1 ≡ m.which = omega arith in
       rw (date_is, e) (omega (arith, sum_none year_length, sum_none (month_length y.which), place_sum year_length 99 0 d, place_sum (month_length y.which) 11 0 y.rest))
 
-  pub date_day : day_of (date_of d).yy (date_of d).mm (date_of d).dd ≡ Day d
+  pub date_day : day_of (date_of d).yy (date_of d).mm (date_of d).dd ≡ Some d
   unfolding day_of
-  date_day = rw (real_date_lem (date_of d).yy (date_of d).mm (date_of d).dd date_real) (ap Day day_of_date_of)
+  date_day = rw (real_date_lem (date_of d).yy (date_of d).mm (date_of d).dd date_real) (ap Some day_of_date_of)
 
 -- ---- what an answer of `day_of` says
 
-cond_unreal : (b : Bool) (n : ℕ) → cond b (Day n) Unreal ≡ Unreal → b ≡ false
+cond_unreal : (b : Bool) (n : ℕ) → cond b (Some n) None ≡ None → b ≡ false
 cond_unreal true n e = absurd (let z : ◌≡◌ {A = ℕ} 0 1 = cc in omega arith)
 cond_unreal false n e = refl
 
-cond_day : (b : Bool) (n m : ℕ) → cond b (Day n) Unreal ≡ Day m → (b ≡ true) × (m ≡ n)
+cond_day : (b : Bool) (n m : ℕ) → cond b (Some n) None ≡ Some m → (b ≡ true) × (m ≡ n)
 cond_day true n m e = (refl, cc)
 cond_day false n m e = absurd (let z : ◌≡◌ {A = ℕ} 0 1 = cc in omega arith)
 
 module _ (yy mm dd : ℕ) where
-  pub unreal_date : day_of yy mm dd ≡ Unreal → real_date yy mm dd ≡ false
+  pub unreal_date : day_of yy mm dd ≡ None → real_date yy mm dd ≡ false
   unfolding day_of
   unreal_date e = cond_unreal (real_date yy mm dd) (day_number yy mm dd) e
 
-  module _ (n : ℕ) (e : day_of yy mm dd ≡ Day n) where
+  module _ (n : ℕ) (e : day_of yy mm dd ≡ Some n) where
     parts : (real_date yy mm dd ≡ true) × (n ≡ day_number yy mm dd)
     unfolding day_of
     parts = cond_day (real_date yy mm dd) (day_number yy mm dd) n e

@@ -1,5 +1,6 @@
 -- Seconds and real stamps are one to one; half-hours ended, as one formula.
 -- Assumes nothing.
+use Rattle.std.specs.Prelude.{Some, None}
 use mathlib.Core.Path.{◌≡◌, refl, sym, ap, ◌∙◌}
 use mathlib.Core.Bool.{Bool, true, false, cond, ◌&&◌}
 use Prim.Native.Nat.{ℕ, ◌+◌, ◌-◌, ◌*◌, ◌/◌, ◌%◌, ◌≤◌, ◌<◌, min}
@@ -10,7 +11,6 @@ use lib.Dec.{ltb}
 use Rattle.laws.proofs.Bools.{both}
 use Rattle.laws.proofs.Split.{by_dec}
 use Rattle.calendar.specs.declared.Stamp.{Stamp}
-use Rattle.calendar.specs.declared.Moment.TheVariants.{At, Unreal}
 use Rattle.calendar.specs.Calendar.{real_date, day_number}
 use Rattle.calendar.specs.Clock.{seconds_of_day, seconds_of_half, halves_of_day, times_in_all, real_clock, real_stamp, second_number, second_of, stamp_of, ended_at, ended_on}
 use Rattle.calendar.proofs.Dates.{Real, real_facts, real_date_lem, day_below, date_of_day_of, date_real, day_of_date_of}
@@ -49,18 +49,18 @@ module _ (t : ℕ) (h : t < times_in_all) where
   unfolding stamp_of second_number
   second_of_stamp = rw (lt-ltb t times_in_all h, day_of_date_of (t / seconds_of_day) (omega arith)) (omega arith)
 
-  pub stamp_second : second_of (stamp_of t) ≡ At t
+  pub stamp_second : second_of (stamp_of t) ≡ Some t
   unfolding second_of
-  stamp_second = rw (stamp_is_real (stamp_of t) stamp_real) (ap At second_of_stamp)
+  stamp_second = rw (stamp_is_real (stamp_of t) stamp_real) (ap Some second_of_stamp)
 
 clock_parts : (n h m s : ℕ) → n ≡ h * 3600 + m * 60 + s → m < 60 → s < 60 → (n / 3600 ≡ h) × (n % 3600 / 60 ≡ m) × (n % 60 ≡ s)
 clock_parts n h m s e l k = (omega arith, omega arith, omega arith)
 
-cond_at : (b : Bool) (n m : ℕ) → cond b (At n) Unreal ≡ At m → (b ≡ true) × (m ≡ n)
+cond_at : (b : Bool) (n m : ℕ) → cond b (Some n) None ≡ Some m → (b ≡ true) × (m ≡ n)
 cond_at true n m e = (refl, cc)
 cond_at false n m e = absurd (let z : ◌≡◌ {A = ℕ} 0 1 = cc in omega arith)
 
-module _ (s : Stamp) (t : ℕ) (e : second_of s ≡ At t) where
+module _ (s : Stamp) (t : ℕ) (e : second_of s ≡ Some t) where
   at : (real_stamp s ≡ true) × (t ≡ second_number s)
   unfolding second_of
   at = cond_at (real_stamp s) (second_number s) t e

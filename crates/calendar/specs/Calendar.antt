@@ -1,11 +1,9 @@
 -- Days and dates (docs/RULES.md, "Quantities": 2000-01-01 to 2099-12-31; YY means 20YY). A day is its number, 0 for 2000-01-01.
 -- In these hundred years a year is a leap year exactly where 4 divides it: 2000 is one, and 2100 is past the end.
-use Rattle.std.specs.Prelude.{Bool, cond, ◌&&◌, [], ◌∷◌, ℕ, zero, suc, ◌+◌, ◌-◌, ◌%◌, eqb, ltb, leb, get_or}
+use Rattle.std.specs.Prelude.{Bool, cond, ◌&&◌, [], ◌∷◌, ℕ, zero, suc, ◌+◌, ◌-◌, ◌%◌, eqb, ltb, leb, get_or, Option, Some, None}
 use Rattle.laws.specs.Tests.{sum_below}
 use Rattle.calendar.specs.declared.Date.{Date}
 use Rattle.calendar.specs.declared.Spot.{Spot}
-use Rattle.calendar.specs.declared.Found.{Found}
-use Rattle.calendar.specs.declared.Found.TheVariants.{Day, Unreal}
 
 abbrev pub days_in_all : ℕ
 days_in_all = 36525
@@ -33,8 +31,8 @@ real_date yy mm dd = ltb yy 100 && (leb 1 mm && (leb mm 12 && (leb 1 dd && leb d
 unfoldable pub day_number : ℕ → ℕ → ℕ → ℕ
 day_number yy mm dd = sum_below year_length yy + sum_below (month_length yy) (mm - 1) + (dd - 1)
 
-unfoldable pub day_of : ℕ → ℕ → ℕ → Found
-day_of yy mm dd = cond (real_date yy mm dd) (Day (day_number yy mm dd)) Unreal
+unfoldable pub day_of : ℕ → ℕ → ℕ → Option ℕ
+day_of yy mm dd = cond (real_date yy mm dd) (Some (day_number yy mm dd)) None
 
 -- ---- from a day to its date
 

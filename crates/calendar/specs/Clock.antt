@@ -1,9 +1,7 @@
 -- Time (docs/RULES.md, "Quantities"): whole seconds from 2000-01-01 00:00:00; a day has 48 half-hours, and a second that is a boundary
 -- belongs to the half-hour it opens, so a half-hour has ended at t when its end is at or before t.
-use Rattle.std.specs.Prelude.{Bool, cond, ◌&&◌, ℕ, ◌+◌, ◌*◌, ◌/◌, ◌%◌, eqb, ltb}
+use Rattle.std.specs.Prelude.{Bool, cond, ◌&&◌, ℕ, ◌+◌, ◌*◌, ◌/◌, ◌%◌, eqb, ltb, Option, Some, None}
 use Rattle.calendar.specs.declared.Stamp.{Stamp}
-use Rattle.calendar.specs.declared.Moment.{Moment}
-use Rattle.calendar.specs.declared.Moment.TheVariants.{At, Unreal}
 use Rattle.calendar.specs.Calendar.{real_date, day_number, date_of}
 
 abbrev pub seconds_of_day : ℕ
@@ -30,8 +28,8 @@ real_stamp s = real_date s.yy s.mm s.dd && real_clock s.hh s.mi s.ss
 unfoldable pub second_number : Stamp → ℕ
 second_number s = day_number s.yy s.mm s.dd * seconds_of_day + s.hh * 3600 + s.mi * 60 + s.ss
 
-unfoldable pub second_of : Stamp → Moment
-second_of s = cond (real_stamp s) (At (second_number s)) Unreal
+unfoldable pub second_of : Stamp → Option ℕ
+second_of s = cond (real_stamp s) (Some (second_number s)) None
 
 -- ---- from a second to its date and time of day, all zeros past the last
 

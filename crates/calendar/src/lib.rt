@@ -16,12 +16,6 @@ pub struct Date {
     pub dd: u32,
 }
 
-#[derive(Clone, Copy)]
-pub enum Found {
-    Day(u32),
-    Unreal,
-}
-
 // A date and a time of day.
 #[derive(Clone, Copy)]
 pub struct Stamp {
@@ -31,12 +25,6 @@ pub struct Stamp {
     pub hh: u32,
     pub mi: u32,
     pub ss: u32,
-}
-
-#[derive(Clone, Copy)]
-pub enum Moment {
-    At(u64),
-    Unreal,
 }
 
 // The length that a number falls in, of lengths in a row, and its place there.
@@ -61,10 +49,11 @@ const LENGTHS: [u32; 12] = [31, 28, 31, 30, 31, 30, 31, 31, 30, 31, 30, 31];
 
 const DAYS_BEFORE: [u32; 12] = [0, 31, 59, 90, 120, 151, 181, 212, 243, 273, 304, 334];
 
+#[tactic(auto, using(laws::proofs::Bits::bit_from), unfolding(crate::specs::Calendar::leap_day, laws::specs::Bits::bit))]
 fn leap_day(yy: u32) -> u32
     ensures { (result ≡ leap_day yy) × (result ≤ 1) }
 {
-    if yy % 4 == 0 { 1 } else { 0 }
+    u32::from(yy % 4 == 0)
 }
 
 // Of month i, counted from 0.
@@ -159,27 +148,27 @@ fn days_before_year(yy: u32) -> u32
     365 * yy + (yy + 3) / 4
 }
 
-// The day number of a date.
-pub fn day_of_date(yy: u32, mm: u32, dd: u32) -> Found
+// The day number of a date, if it is real.
+pub fn day_of_date(yy: u32, mm: u32, dd: u32) -> Option<u32>
     ensures { result ≡ day_of yy mm dd }
 {
     if 100 <= yy {
-        return Found::Unreal;
+        return None;
     }
     if mm < 1 {
-        return Found::Unreal;
+        return None;
     }
     if 12 < mm {
-        return Found::Unreal;
+        return None;
     }
     if dd < 1 {
-        return Found::Unreal;
+        return None;
     }
     let i = mm - 1;
     if month_length(yy, i as usize) < dd {
-        return Found::Unreal;
+        return None;
     }
-    Found::Day(days_before_year(yy) + days_before_month(yy, i) + (dd - 1))
+    Some(days_before_year(yy) + days_before_month(yy, i) + (dd - 1))
 }
 
 // The date and the time of day of a second, and all zeros past the calendar's end.
@@ -208,23 +197,21 @@ pub fn stamp_of(t: u64) -> Stamp
     }
 }
 
-// The second of a date and a time of day.
-pub fn second_of(s: Stamp) -> Moment
+// The second of a date and a time of day, if they are real.
+pub fn second_of(s: Stamp) -> Option<u64>
     ensures { result ≡ second_of s }
 {
-    let Found::Day(d) = day_of_date(s.yy, s.mm, s.dd) else {
-        return Moment::Unreal;
-    };
+    let d = day_of_date(s.yy, s.mm, s.dd)?;
     if 24 <= s.hh {
-        return Moment::Unreal;
+        return None;
     }
     if 60 <= s.mi {
-        return Moment::Unreal;
+        return None;
     }
     if 60 <= s.ss {
-        return Moment::Unreal;
+        return None;
     }
-    Moment::At(seconds(d, s.hh, s.mi, s.ss))
+    Some(seconds(d, s.hh, s.mi, s.ss))
 }
 
 fn seconds(d: u32, hh: u32, mi: u32, ss: u32) -> u64
@@ -262,8 +249,8 @@ pub fn date_digits(d: u32) -> u32
     a.yy * 10000 + a.mm * 100 + a.dd
 }
 
-// The day that YYMMDD names.
-pub fn day_on(x: u32) -> Found
+// The day that YYMMDD names, if it names one.
+pub fn day_on(x: u32) -> Option<u32>
     ensures { result ≡ day_on x }
 {
     day_of_date(x / 10000, x / 100 % 100, x % 100)
@@ -279,8 +266,8 @@ pub fn time_digits(t: u64) -> u64
     date as u64 * 1000000 + clock as u64
 }
 
-// The second that YYMMDDhhmmss names.
-pub fn time_on(x: u64) -> Moment
+// The second that YYMMDDhhmmss names, if it names one.
+pub fn time_on(x: u64) -> Option<u64>
     ensures { result ≡ seconds_on x }
 {
     let date = x / 1000000;

@@ -1,252 +1,450 @@
-// What a script's line asks for, as one table: what it is, how many words follow the name, and what they must be. Here the words become numbers, once; a line
-// that breaks its command's limits is not understood, so that no part of a program has to look at words again.
+// What a script's line asks for. Here its words become a command, once, with the numbers that they name; a line that breaks its command's limits is none, so that no
+// other part of a program has to look at words.
 #![tactic(auto)]
 
+mod places;
 mod words;
 
-use script::{Said, names};
+use memory::{Change, LONGEST, Lengths};
+use recorder::Event;
+use registers::Shift;
+use script::names;
+use tariff::Kind;
+use words::Words;
 
-// A command: what it is, the fewest and the most words behind its name, what the first of them is, and the largest that the first three numbers may be.
+// ---- commands, by what they may change
+
 #[derive(Clone, Copy)]
-struct Command(u64, usize, usize, u64, u64, u64, u64);
+pub enum Command<'a> {
+    Meter(MeterCommand<'a>),
+    Block(BlockCommand<'a>),
+    Ledger(LedgerCommand<'a>),
+    Editor(EditorCommand),
+    Show(Shown),
+}
 
-// ---- what a command is, by what it may change: nothing, outstation and store or the given fields, blocks out of these or into them, blocks, the ledger, an editor's table
+// The class by its number, and whether it is single phase, as a recorder's row has them.
+#[derive(Clone, Copy)]
+pub struct SetUp<'a> {
+    pub identifier: &'a [u8],
+    pub class: u64,
+    pub single: bool,
+    pub weight: u32,
+    pub time: u64,
+    pub total: u64,
+    pub counter: u32,
+}
 
-pub const NOTHING: u64 = 0;
+// Outstation, store, the room of its switching table; and the given fields. A load offers so many bytes of the editor's table.
+#[derive(Clone, Copy)]
+pub enum MeterCommand<'a> {
+    SetUp(SetUp<'a>),
+    Happen(Event),
+    Load(usize),
+    Single,
+    LendAgain,
+    Lend(Lengths),
+    LendTable(usize),
+    Poke(Change),
+    PokeTable { at: usize, byte: u8 },
+    Give(Change),
+}
 
-pub const SHOWN: u64 = 1;
+// Blocks: one is read or written into so much room, becomes the given fields, is spelt by a word, changed, kept or taken.
+#[derive(Clone, Copy)]
+pub enum BlockCommand<'a> {
+    Read { days: u32, room: usize },
+    Write { room: usize },
+    Fields,
+    Hex(&'a [u8]),
+    Byte { at: usize, byte: u8 },
+    Cut(usize),
+    Keep(usize),
+    Take(usize),
+}
 
-pub const DAY_SHOWN: u64 = 2;
+// The ledger: it is opened, the current block or a kept one is filed, so many bytes are lent, one of them is changed.
+#[derive(Clone, Copy)]
+pub enum LedgerCommand<'a> {
+    Open {
+        identifier: &'a [u8],
+        first: u32,
+        days: u32,
+    },
+    File,
+    Deliver(usize),
+    Lend(usize),
+    Poke {
+        at: usize,
+        byte: u8,
+    },
+}
 
-pub const METER: u64 = 3;
+pub type Slot = [u8; tariff::SLOT];
 
-pub const SENT: u64 = 4;
+// The editor's table, by its slots.
+#[derive(Clone, Copy)]
+pub enum EditorCommand {
+    Blank,
+    Add(Slot),
+    Write { slot: usize, bytes: Slot },
+    Swap(usize, usize),
+}
 
-pub const BLOCK: u64 = 5;
-
-pub const LEDGER: u64 = 6;
-
-pub const EDITOR: u64 = 7;
-
-pub const TABLE_SHOWN: u64 = 8;
-
-// ---- what its first number is: the number in a word, the day, the time, a name; behind an identifier a day, or all that a set-up has; PPP, as a name; seconds with a sign, which is the second number
-
-const NUMBER: u64 = 0;
-
-const DAY: u64 = 1;
-
-const TIME: u64 = 2;
-
-const NAME: u64 = 3;
-
-const ID_DAY: u64 = 4;
-
-const SET_UP: u64 = 5;
-
-const PPP: u64 = 6;
-
-const SIGNED: u64 = 7;
+#[derive(Clone, Copy)]
+pub enum Shown {
+    Recorder,
+    Day(u32),
+    Block,
+    Check,
+    Listing,
+    Ledger,
+    Summary(u32),
+    Missing(u32),
+    Table,
+    RateAt(u64),
+    Week(u32),
+}
 
 // ---- limits
 
-const ANY: u64 = script::NONE;
+const LAST_SLOT: usize = tariff::SLOTS - 1;
 
-const LARGE: u64 = script::limits::MOST;
+// The letters of MMDD and of YYMMDD.
+const EVERY: usize = 4;
 
-const SMALL: u64 = script::limits::MOST_SMALL;
+const DATED: usize = 6;
 
-const SHELF: u64 = memory::SHELVES as u64 - 1;
+// ---- outstation, store and given fields
 
-const ROOM: u64 = memory::SHELF as u64;
+// The time is one word or two, so that the last words are counted from the end.
+fn set_up(words: Words<'_>) -> Option<MeterCommand<'_>> {
+    let n = words.count();
+    let start = SetUp {
+        identifier: words.identifier(1)?,
+        class: words.class(2)?,
+        single: words.is_single(3)?,
+        weight: words.small(4)?,
+        time: words.time(5, n.saturating_sub(2))?,
+        total: words.number(n.saturating_sub(1))?,
+        counter: words.small(n)?,
+    };
+    Some(MeterCommand::SetUp(start))
+}
 
-const BYTE: u64 = script::limits::MOST_BYTE;
+fn event(words: Words<'_>) -> Option<Event> {
+    let n = words.count();
+    match words.name(0) {
+        names::CLOCK => Some(Event::Clock(words.time(1, n)?)),
+        names::ON => Some(Event::On(words.time(1, n)?)),
+        names::OFF => words.alone(Event::Off),
+        names::ACCESS => words.alone(Event::Access),
+        names::RESET => words.alone(Event::Reset),
+        names::REVERSE => words.alone(Event::Reverse),
+        _ => event_with(words.exactly(1)?),
+    }
+}
 
-const CLASSES: u64 = script::limits::MOST_CLASS;
+// The events with one word.
+fn event_with(words: Words<'_>) -> Option<Event> {
+    match words.name(0) {
+        names::COUNT => Some(Event::Count(words.small(1)?)),
+        names::METER => Some(Event::Meter(words.small(1)?)),
+        names::RATE => Some(Event::Rate(words.small(1)?)),
+        names::PPP => ppp(words.word(1)),
+        names::ADJUST => Some(Event::Adjust(shift(words.word(1))?)),
+        _ => None,
+    }
+}
 
-const VALUES: u64 = memory::VALUES as u64;
+fn ppp(word: &[u8]) -> Option<Event> {
+    match word {
+        [a, b, c] => Some(Event::Ppp(*a, *b, *c)),
+        _ => None,
+    }
+}
 
-const STARTS: u64 = memory::STORE_DAYS as u64;
+// Seconds, back where a `-` stands before them.
+fn shift(word: &[u8]) -> Option<Shift> {
+    match word {
+        [b'-', digits @ ..] => Some(Shift::Back(script::number32(digits)?)),
+        _ => Some(Shift::Ahead(script::number32(word)?)),
+    }
+}
 
-const MARKS: u64 = memory::MARKS as u64;
+// All of the editor's table, or so many bytes.
+fn load(words: Words<'_>) -> Option<MeterCommand<'_>> {
+    match words.count() {
+        0 => Some(MeterCommand::Load(tariff::TABLE)),
+        1 => Some(MeterCommand::Load(words.up_to(1, memory::TABLE)?)),
+        _ => None,
+    }
+}
 
-const LEDGERS: u64 = ledger::LONGEST as u64;
+fn lend_store(words: Words<'_>) -> Option<MeterCommand<'_>> {
+    match words.count() {
+        0 => Some(MeterCommand::LendAgain),
+        3 => Some(MeterCommand::Lend(Lengths {
+            values: words.up_to(1, memory::VALUES)?,
+            starts: words.up_to(2, memory::STORE_DAYS)?,
+            marks: words.up_to(3, memory::MARKS)?,
+        })),
+        _ => None,
+    }
+}
 
-const TABLES: u64 = memory::TABLE as u64;
-
-const LAST_SLOT: u64 = tariff::SLOTS as u64 - 1;
-
-// hhmm with an hour that is a byte, and YYMMDD.
-const CLOCKS: u64 = 100 * script::limits::MOST_BYTE + 99;
-
-const DATES: u64 = 999999;
-
-// The table.
-fn named(name: u64) -> Command {
-    match name {
-        names::SETUP => Command(METER, 7, 8, SET_UP, CLASSES, SMALL, LARGE),
-        names::COUNT | names::METER | names::RATE => Command(METER, 1, 1, NUMBER, SMALL, ANY, ANY),
-        names::CLOCK | names::ON => Command(METER, 1, 2, TIME, LARGE, ANY, ANY),
-        names::OFF | names::ACCESS | names::RESET | names::REVERSE | names::SINGLE => {
-            Command(METER, 0, 0, NUMBER, ANY, ANY, ANY)
+// `lend`, `lend table` and `lend ledger`.
+fn lend(words: Words<'_>) -> Option<Command<'_>> {
+    match words.name(1) {
+        names::LEDGER => {
+            let n = words.exactly(2)?.up_to(2, memory::LONGEST_LEDGER)?;
+            Some(Command::Ledger(LedgerCommand::Lend(n)))
         }
-        names::PPP => Command(METER, 1, 1, PPP, ANY, ANY, ANY),
-        names::ADJUST => Command(METER, 1, 1, SIGNED, SMALL, ANY, ANY),
-        names::DAY => Command(DAY_SHOWN, 1, 1, DAY, SMALL, ANY, ANY),
-        names::LEND => Command(METER, 0, 3, NUMBER, VALUES, STARTS, MARKS),
-        names::POKE => Command(METER, 2, 3, NAME, ANY, LARGE, LARGE),
-        names::GIVEN => Command(METER, 2, 4, NAME, ANY, LARGE, LARGE),
-        names::READ => Command(SENT, 1, 2, NUMBER, SMALL, ROOM, ANY),
-        names::WRITE => Command(SENT, 1, 1, NUMBER, ROOM, ANY, ANY),
-        names::FIELDS => Command(SENT, 0, 0, NUMBER, ANY, ANY, ANY),
-        names::HEX => Command(BLOCK, 1, 1, NAME, ANY, ANY, ANY),
-        names::BYTE => Command(BLOCK, 2, 2, NUMBER, LARGE, BYTE, ANY),
-        names::CUT => Command(BLOCK, 1, 1, NUMBER, ROOM, ANY, ANY),
-        names::KEEP | names::TAKE => Command(BLOCK, 1, 1, NUMBER, SHELF, ANY, ANY),
-        names::OPEN => Command(LEDGER, 3, 3, ID_DAY, SMALL, SMALL, ANY),
-        names::FILE => Command(LEDGER, 0, 0, NUMBER, ANY, ANY, ANY),
-        names::DELIVER => Command(LEDGER, 1, 1, NUMBER, SHELF, ANY, ANY),
-        names::LOAD => Command(METER, 0, 1, NUMBER, TABLES, ANY, ANY),
-        names::LEND_TABLE => Command(METER, 2, 2, NAME, ANY, TABLES, ANY),
-        names::POKE_TABLE => Command(METER, 3, 3, NAME, ANY, LARGE, BYTE),
-        names::LEND_LEDGER => Command(LEDGER, 2, 2, NAME, ANY, LEDGERS, ANY),
-        names::POKE_LEDGER => Command(LEDGER, 3, 3, NAME, ANY, LARGE, BYTE),
-        names::SHOW | names::BLOCK | names::CHECK | names::LISTING | names::LEDGER => {
-            Command(SHOWN, 0, 0, NUMBER, ANY, ANY, ANY)
+        names::TABLE => {
+            let n = words.exactly(2)?.up_to(2, memory::TABLE)?;
+            Some(Command::Meter(MeterCommand::LendTable(n)))
         }
-        names::SUMMARY | names::MISSING => Command(SHOWN, 1, 1, DAY, SMALL, ANY, ANY),
-        _ => of_table(name),
+        _ => Some(Command::Meter(lend_store(words)?)),
     }
 }
 
-// The commands of the switching table.
-fn of_table(name: u64) -> Command {
-    match name {
-        names::BLANK => Command(EDITOR, 0, 0, NUMBER, ANY, ANY, ANY),
-        names::AT => Command(EDITOR, 3, 3, NUMBER, BYTE, CLOCKS, BYTE),
-        names::EXCEPT => Command(EDITOR, 2, 2, NUMBER, BYTE, DATES, ANY),
-        names::WEEKDAYS => Command(EDITOR, 3, 3, NUMBER, BYTE, BYTE, BYTE),
-        names::DEFAULT => Command(EDITOR, 1, 1, NUMBER, BYTE, ANY, ANY),
-        names::SLOT => Command(EDITOR, 6, 6, NUMBER, LAST_SLOT, BYTE, BYTE),
-        names::SWAP => Command(EDITOR, 2, 2, NUMBER, LAST_SLOT, LAST_SLOT, ANY),
-        names::TABLE => Command(TABLE_SHOWN, 0, 0, NUMBER, ANY, ANY, ANY),
-        names::RATEAT => Command(TABLE_SHOWN, 1, 2, TIME, LARGE, ANY, ANY),
-        names::WEEK => Command(TABLE_SHOWN, 1, 1, DAY, SMALL, ANY, ANY),
-        _ => Command(NOTHING, 0, 0, NUMBER, ANY, ANY, ANY),
+// `poke`, `poke table` and `poke ledger`.
+fn poke(words: Words<'_>) -> Option<Command<'_>> {
+    match words.name(1) {
+        names::LEDGER => {
+            let words = words.exactly(3)?;
+            Some(Command::Ledger(LedgerCommand::Poke {
+                at: words.index(2)?,
+                byte: words.byte(3)?,
+            }))
+        }
+        names::TABLE => {
+            let words = words.exactly(3)?;
+            Some(Command::Meter(MeterCommand::PokeTable {
+                at: words.index(2)?,
+                byte: words.byte(3)?,
+            }))
+        }
+        _ => Some(Command::Meter(MeterCommand::Poke(places::poked(words)?))),
     }
 }
 
-// The name of a command by its first two words: `lend ledger`, `poke table` and the like have names of their own.
-fn joined(first: u64, second: u64) -> u64 {
-    match second {
-        names::LEDGER => one_of(first, names::LEND_LEDGER, names::POKE_LEDGER),
-        names::TABLE => one_of(first, names::LEND_TABLE, names::POKE_TABLE),
-        _ => first,
+fn to_meter(words: Words<'_>) -> Option<MeterCommand<'_>> {
+    match words.name(0) {
+        names::SETUP => set_up(words),
+        names::SINGLE => words.alone(MeterCommand::Single),
+        names::LOAD => load(words),
+        names::GIVEN => Some(MeterCommand::Give(places::given(words)?)),
+        _ => Some(MeterCommand::Happen(event(words)?)),
     }
 }
 
-fn one_of(first: u64, lent: u64, poked: u64) -> u64 {
-    match first {
-        names::LEND => lent,
-        names::POKE => poked,
-        _ => first,
+// ---- blocks
+
+// `read N` has the longest room, `read N ROOM` the one that it names.
+fn read_out(words: Words<'_>) -> Option<BlockCommand<'_>> {
+    let room = match words.count() {
+        1 => LONGEST,
+        2 => words.up_to(2, LONGEST)?,
+        _ => return None,
+    };
+    Some(BlockCommand::Read {
+        days: words.small(1)?,
+        room,
+    })
+}
+
+// The commands with one word.
+fn block_with(words: Words<'_>) -> Option<BlockCommand<'_>> {
+    match words.name(0) {
+        names::WRITE => Some(BlockCommand::Write {
+            room: words.up_to(1, LONGEST)?,
+        }),
+        names::HEX => Some(BlockCommand::Hex(words.word(1))),
+        names::CUT => Some(BlockCommand::Cut(words.up_to(1, LONGEST)?)),
+        names::KEEP => Some(BlockCommand::Keep(words.index(1)?)),
+        names::TAKE => Some(BlockCommand::Take(words.index(1)?)),
+        _ => None,
     }
 }
 
-// ---- words as numbers
-
-// The first number of a line with n words behind its name.
-fn first(what: u64, line: &[u8], n: usize) -> u64 {
-    match what {
-        DAY => script::day_at(line, 1),
-        TIME => script::time_at(line, 1, n),
-        NAME | PPP => script::name_at(line, 1),
-        ID_DAY => script::day_at(line, 2),
-        SIGNED => words::seconds(script::word(line, 1)),
-        _ => words::argument(line, 1, n),
+fn to_block(words: Words<'_>) -> Option<BlockCommand<'_>> {
+    match words.name(0) {
+        names::READ => read_out(words),
+        names::FIELDS => words.alone(BlockCommand::Fields),
+        names::BYTE => {
+            let words = words.exactly(2)?;
+            Some(BlockCommand::Byte {
+                at: words.index(1)?,
+                byte: words.byte(2)?,
+            })
+        }
+        _ => block_with(words.exactly(1)?),
     }
 }
 
-// The second: what an identifier pushes back is found a word later; of seconds it is the sign.
-fn second(what: u64, line: &[u8], n: usize) -> u64 {
-    match what {
-        ID_DAY => words::argument(line, 3, n),
-        SIGNED => words::is_back(script::word(line, 1)),
-        _ => words::argument(line, 2, n),
+// ---- the ledger
+
+fn open(words: Words<'_>) -> Option<LedgerCommand<'_>> {
+    let words = words.exactly(3)?;
+    Some(LedgerCommand::Open {
+        identifier: words.identifier(1)?,
+        first: words.day(2)?,
+        days: words.small(3)?,
+    })
+}
+
+fn to_ledger(words: Words<'_>) -> Option<LedgerCommand<'_>> {
+    match words.name(0) {
+        names::OPEN => open(words),
+        names::FILE => words.alone(LedgerCommand::File),
+        names::DELIVER => Some(LedgerCommand::Deliver(words.exactly(1)?.index(1)?)),
+        _ => None,
     }
 }
 
-fn plain(kind: u64, what: u64, name: u64, line: &[u8], n: usize) -> Said {
-    Said {
-        kind: kind,
-        name: name,
-        n: n,
-        a: first(what, line, n),
-        b: second(what, line, n),
-        c: words::argument(line, 3, n),
-        d: words::argument(line, 4, n),
-        e: 0,
-        f: 0,
+// ---- an editor's table
+
+// `at T hhmm R`.
+fn switching_time(words: Words<'_>) -> Option<Slot> {
+    let words = words.exactly(3)?;
+    let time = words.number(2)?;
+    let hour = u8::try_from(time / 100).ok()?;
+    Some([
+        Kind::Time as u8,
+        words.byte(1)?,
+        hour,
+        (time % 100) as u8,
+        words.byte(3)?,
+    ])
+}
+
+// `except T MMDD` or `except T YYMMDD`.
+fn exception(words: Words<'_>) -> Option<Slot> {
+    let words = words.exactly(2)?;
+    let date = words.number(2)?;
+    let year = match words.word(2).len() {
+        EVERY => tariff::EVERY_YEAR,
+        DATED => (date / 10000 % 100) as u8,
+        _ => return None,
+    };
+    Some([
+        Kind::Exception as u8,
+        words.byte(1)?,
+        year,
+        (date / 100 % 100) as u8,
+        (date % 100) as u8,
+    ])
+}
+
+fn weekdays(words: Words<'_>) -> Option<Slot> {
+    let words = words.exactly(3)?;
+    Some([
+        Kind::Weekdays as u8,
+        words.byte(1)?,
+        words.byte(2)?,
+        words.byte(3)?,
+        0,
+    ])
+}
+
+// `slot I K T X Y Z`.
+fn slot(words: Words<'_>) -> Option<EditorCommand> {
+    let words = words.exactly(6)?;
+    let bytes = [
+        words.byte(2)?,
+        words.byte(3)?,
+        words.byte(4)?,
+        words.byte(5)?,
+        words.byte(6)?,
+    ];
+    Some(EditorCommand::Write {
+        slot: words.up_to(1, LAST_SLOT)?,
+        bytes,
+    })
+}
+
+fn swap(words: Words<'_>) -> Option<EditorCommand> {
+    let words = words.exactly(2)?;
+    Some(EditorCommand::Swap(words.up_to(1, LAST_SLOT)?, words.up_to(2, LAST_SLOT)?))
+}
+
+fn to_editor(words: Words<'_>) -> Option<EditorCommand> {
+    match words.name(0) {
+        names::BLANK => words.alone(EditorCommand::Blank),
+        names::AT => Some(EditorCommand::Add(switching_time(words)?)),
+        names::EXCEPT => Some(EditorCommand::Add(exception(words)?)),
+        names::WEEKDAYS => Some(EditorCommand::Add(weekdays(words)?)),
+        names::DEFAULT => {
+            let day_type = words.exactly(1)?.byte(1)?;
+            Some(EditorCommand::Add([Kind::Default as u8, day_type, 0, 0, 0]))
+        }
+        names::SLOT => slot(words),
+        names::SWAP => swap(words),
+        _ => None,
     }
 }
 
-// Class, weight, time, total, counter and phase kind: the time is one word or two, so that the last words are counted from the end.
-fn start(kind: u64, name: u64, line: &[u8], n: usize) -> Said {
-    Said {
-        kind: kind,
-        name: name,
-        n: n,
-        a: words::class(script::word(line, 2)),
-        b: words::argument(line, 4, n),
-        c: script::time_at(line, 5, words::less(n, 2)),
-        d: words::argument(line, words::less(n, 1), n),
-        e: words::argument(line, n, n),
-        f: words::phase(script::word(line, 3)),
+// ---- what is shown
+
+fn to_show(words: Words<'_>) -> Option<Shown> {
+    match words.name(0) {
+        names::SHOW => words.alone(Shown::Recorder),
+        names::BLOCK => words.alone(Shown::Block),
+        names::CHECK => words.alone(Shown::Check),
+        names::LISTING => words.alone(Shown::Listing),
+        names::LEDGER => words.alone(Shown::Ledger),
+        names::TABLE => words.alone(Shown::Table),
+        names::RATEAT => Some(Shown::RateAt(words.time(1, words.count())?)),
+        _ => day_to_show(words.exactly(1)?),
     }
 }
 
-fn read_as(command: Command, name: u64, line: &[u8], n: usize) -> Said {
-    if command.3 == SET_UP {
-        return start(command.0, name, line, n);
-    }
-    plain(command.0, command.3, name, line, n)
-}
-
-// ---- what is understood
-
-// Whether a word is as long as an identifier or PPP, where there has to be one.
-fn is_identified(what: u64, word: &[u8]) -> bool {
-    match what {
-        ID_DAY | SET_UP => word.len() == format::IDENTIFIER,
-        PPP => word.len() == format::PPP,
-        _ => true,
+fn day_to_show(words: Words<'_>) -> Option<Shown> {
+    let day = words.day(1)?;
+    match words.name(0) {
+        names::DAY => Some(Shown::Day(day)),
+        names::SUMMARY => Some(Shown::Summary(day)),
+        names::MISSING => Some(Shown::Missing(day)),
+        names::WEEK => Some(Shown::Week(day)),
+        _ => None,
     }
 }
 
-fn is_within(said: Said, command: Command) -> bool {
-    (command.1 <= said.n)
-        & (said.n <= command.2)
-        & (said.a <= command.4)
-        & (said.b <= command.5)
-        & (said.c <= command.6)
-        & (said.d <= LARGE)
-        & (said.e <= SMALL)
-        & (said.f <= SMALL)
-}
+// ---- a line
 
-// What a line is, where its numbers are within the command's limits.
-fn kind_of(said: Said, command: Command, id: &[u8]) -> u64 {
-    if is_within(said, command) & is_identified(command.3, id) {
-        return said.kind;
+pub fn read(line: &[u8]) -> Option<Command<'_>> {
+    let words = Words::of(line);
+    match words.name(0) {
+        names::LEND => lend(words),
+        names::POKE => poke(words),
+        names::READ
+        | names::WRITE
+        | names::FIELDS
+        | names::HEX
+        | names::BYTE
+        | names::CUT
+        | names::KEEP
+        | names::TAKE => Some(Command::Block(to_block(words)?)),
+        names::OPEN | names::FILE | names::DELIVER => Some(Command::Ledger(to_ledger(words)?)),
+        names::BLANK
+        | names::AT
+        | names::EXCEPT
+        | names::WEEKDAYS
+        | names::DEFAULT
+        | names::SLOT
+        | names::SWAP => Some(Command::Editor(to_editor(words)?)),
+        names::SHOW
+        | names::DAY
+        | names::BLOCK
+        | names::CHECK
+        | names::LISTING
+        | names::LEDGER
+        | names::SUMMARY
+        | names::MISSING
+        | names::TABLE
+        | names::RATEAT
+        | names::WEEK => Some(Command::Show(to_show(words)?)),
+        _ => Some(Command::Meter(to_meter(words)?)),
     }
-    NOTHING
-}
-
-pub fn read(line: &[u8]) -> Said {
-    let name = joined(script::name_at(line, 0), script::name_at(line, 1));
-    let command = named(name);
-    let mut said = read_as(command, name, line, script::arguments(line));
-    let kind = kind_of(said, command, script::word(line, 1));
-    said.kind = kind;
-    said
 }

@@ -1,86 +1,97 @@
-// Words of a line that are missing, the class and the phase kind that a word names, and seconds with a sign. A word that is none becomes NONE, which is larger than any number, so that the test of a
-// limit refuses it too.
+// A line's words, and what each is to name: none where it names no such thing.
 
-use format::Number;
+#[derive(Clone, Copy)]
+pub struct Words<'a> {
+    line: &'a [u8],
+}
 
-// Number k of a line with n words behind its name, and 0 where word k is not among them.
-pub fn argument(line: &[u8], k: usize, n: usize) -> u64 {
-    if n < k {
-        return 0;
+impl<'a> Words<'a> {
+    pub fn of(line: &'a [u8]) -> Words<'a> {
+        Words { line }
     }
-    script::number_at(line, k)
-}
 
-// n - k, or 0.
-pub fn less(n: usize, k: usize) -> usize {
-    if n < k { 0 } else { n - k }
-}
-
-// ---- a class
-
-fn class_of(letter: u8) -> u64 {
-    match letter {
-        b'a' => 1,
-        b'b' => 2,
-        b'c' => 3,
-        b'd' => 4,
-        b'A'..=b'Z' | b'e'..=b'z' => 0,
-        _ => script::NONE,
+    // How many there are behind the name, which is word 0.
+    pub fn count(self) -> usize {
+        script::arguments(self.line)
     }
-}
 
-// The number of the class that a word of one letter names.
-pub fn class(word: &[u8]) -> u64 {
-    if word.len() != 1 {
-        return script::NONE;
+    // The same words, where there are n behind the name.
+    pub fn exactly(self, n: usize) -> Option<Words<'a>> {
+        if self.count() == n { Some(self) } else { None }
     }
-    class_of(word[0])
-}
 
-// ---- a phase kind
-
-// 1 for single phase, 0 for polyphase.
-fn phase_of(letter: u8) -> u64 {
-    match letter {
-        b's' => 1,
-        b'p' => 0,
-        _ => script::NONE,
+    // A command that has none.
+    pub fn alone<T: Drop>(self, command: T) -> Option<T> {
+        if self.count() == 0 {
+            Some(command)
+        } else {
+            None
+        }
     }
-}
 
-pub fn phase(word: &[u8]) -> u64 {
-    if word.len() != 1 {
-        return script::NONE;
+    pub fn word(self, k: usize) -> &'a [u8] {
+        script::word(self.line, k)
     }
-    phase_of(word[0])
-}
 
-// ---- seconds, back where a `-` stands before them
-
-const MINUS: u8 = b'-';
-
-fn digits(word: &[u8]) -> &[u8] {
-    if word.len() == 0 {
-        return word;
+    pub fn name(self, k: usize) -> u64 {
+        script::name_at(self.line, k)
     }
-    if word[0] != MINUS {
-        return word;
+
+    pub fn number(self, k: usize) -> Option<u64> {
+        script::number_at(self.line, k)
     }
-    &word[1..]
-}
 
-pub fn seconds(word: &[u8]) -> u64 {
-    let Number::Is(n) = script::number(digits(word)) else {
-        return script::NONE;
-    };
-    n
-}
+    pub fn index(self, k: usize) -> Option<usize> {
+        Some(self.number(k)? as usize)
+    }
 
-// 1 where they are back, else 0.
-pub fn is_back(word: &[u8]) -> u64 {
-    if digits(word).len() == word.len() {
-        0
-    } else {
-        1
+    pub fn up_to(self, k: usize, most: usize) -> Option<usize> {
+        self.index(k).filter(|n| *n <= most)
+    }
+
+    pub fn small(self, k: usize) -> Option<u32> {
+        script::number32(self.word(k))
+    }
+
+    pub fn byte(self, k: usize) -> Option<u8> {
+        u8::try_from(self.number(k)?).ok()
+    }
+
+    pub fn day(self, k: usize) -> Option<u32> {
+        script::day_at(self.line, k)
+    }
+
+    // In words k to l.
+    pub fn time(self, k: usize, l: usize) -> Option<u64> {
+        script::time(self.line, k, l)
+    }
+
+    pub fn identifier(self, k: usize) -> Option<&'a [u8]> {
+        let word = self.word(k);
+        if word.len() == format::IDENTIFIER {
+            Some(word)
+        } else {
+            None
+        }
+    }
+
+    // The number of a class: another letter than the classes' is none of them.
+    pub fn class(self, k: usize) -> Option<u64> {
+        match self.word(k) {
+            b"a" => Some(1),
+            b"b" => Some(2),
+            b"c" => Some(3),
+            b"d" => Some(4),
+            [b'A'..=b'Z' | b'e'..=b'z'] => Some(0),
+            _ => None,
+        }
+    }
+
+    pub fn is_single(self, k: usize) -> Option<bool> {
+        match self.word(k) {
+            b"s" => Some(true),
+            b"p" => Some(false),
+            _ => None,
+        }
     }
 }

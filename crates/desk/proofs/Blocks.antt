@@ -4,49 +4,58 @@ use mathlib.Core.Path.{◌≡◌, refl, sym, ap, ◌∙◌}
 use mathlib.Core.List.{List, [], ◌∷◌, ◌++◌, append_assoc}
 use Prim.Native.Nat.{ℕ, zero, suc, ◌<◌, ◌≤◌, ◌-◌}
 use native.Mathlib.Omega.{arith}
-use lib.ListN.{length, get_or, length-append}
+use lib.ListN.{length, get_or, take, length-append, length-take}
+use lib.Seq.{get_or-take}
+use Rattle.laws.proofs.Table.{table_of}
+use Rattle.format.proofs.Writing.{letter_is}
 use lib.Seq.{sets}
-use borrow.Author.Tests.{eqb-true, eq-eqb, ne_eqb}
+use borrow.Author.Tests.{eqb-true, ne_eqb}
 use Rattle.laws.specs.Table.{table}
 use Rattle.laws.proofs.Table.{length_table}
 use Rattle.quantity.specs.declared.KilowattHours.{KilowattHours}
 use Rattle.quantity.specs.Units.{kilowatt_hours}
 use Rattle.block.specs.Parse.{parse}
 use Rattle.block.specs.Answers.{answer, answer_of}
-use Rattle.block.specs.declared.Answer.{Answer}
+use Rattle.std.specs.Prelude.{Option, Some, None, Result, Ok, Err}
+use Rattle.std.specs.Option.{is_some}
+use Rattle.laws.specs.Bits.{bit}
+use Rattle.answers.specs.declared.Refusal.{Refusal}
+use Rattle.answers.specs.declared.Refusal.TheVariants.{Short}
+use Rattle.answers.specs.Answer.{Answer, answered, number_of as name}
+use Rattle.answers.proofs.Numbers.{above_0}
+use Rattle.ledger.proofs.Refused.{carries_nothing, judged_low, asked_low}
+use Rattle.filing.specs.declared.Difference.{Difference}
 use Rattle.block.specs.declared.Header.{Header}
-use Rattle.days.specs.Day.{flags_of}
+use Rattle.days.specs.Day.{flags_of, count}
 use Rattle.ledger.specs.Layout.{room_at, first_of, state_in, flags_in}
 use Rattle.ledger.specs.Rooms.{day_with, day_at, slot}
 use Rattle.ledger.specs.Judged.{flags_ok, judged}
-use Rattle.ledger.specs.Asked.{missing_of}
-use Rattle.ledger.specs.declared.MissingAnswer.{MissingAnswer}
+use Rattle.ledger.specs.Asked.{asked, no_missing, missing_of}
 use Rattle.ledger.proofs.Good.{Sound, sound, judged_good}
 use Rattle.filing.specs.File.{read_of}
-use Rattle.filing.specs.Differs.{differs_of}
-use Rattle.filing.specs.declared.Difference.{Difference}
+use Rattle.filing.specs.Differs.{difference_as, differs_of}
 use Rattle.fields.specs.Views.{header_in}
-use Rattle.desk.specs.Numbers.{one_number, flags_number}
+use Rattle.desk.specs.Numbers.{number_of, flags_number}
 use Rattle.format.specs.Identifier.{letter_of}
-use Rattle.desk.specs.Given.{given, give_found, header_numbers, rate_of, totals_row, header_row, give_header, difference_row, give_differs, give_identifier}
+use Rattle.desk.specs.Given.{given, give_found, header_numbers, rate_of, totals_row, header_row, give_header, difference_row, give_differs, give_identifier, half_number, give_halves}
 use Rattle.laws.proofs.Rows.{row_side}
-use Rattle.desk.proofs.Laws.{row_refused, row_short, row_given, answer_asked, halves_asked}
+use Rattle.desk.proofs.Laws.{row_refused, row_short, row_given, asked_refused, day_asked}
 
 -- ---- a row, where a refusal carries something
 
-module _ (out xs : List ℕ) (a : Answer) (r : ℕ) where
-  found_refused : r ≡ one_number a.number a.carried → (a.number ≡ 0 → ⊥) → given out r ≡ give_found out a xs
+module _ (out xs : List ℕ) (a : Answer) where
+  found_refused : (r : Refusal) → answered (Err r) ≡ a → given out (number_of (answered (Err r))) ≡ give_found out a xs
   unfolding give_found
-  found_refused e h = rw (ne_eqb a.number 0 h, e)
+  found_refused r e = rw (← e, ne_eqb (name r) 0 (λ z. omega (arith, z, above_0 r)))
 
-  module _ (z : a.number ≡ 0) (n : ℕ) (len : length xs ≡ n) where
-    found_short : r ≡ one_number 7 n → length out < n → given out r ≡ give_found out a xs
+  module _ (n : ℕ) (e : answered (Ok n) ≡ a) (m row : List ℕ) (p : row ≡ xs) where
+    found_short : (r : Refusal) → (length out < length row) × (m ≡ out) × (r ≡ Short (length row)) → given m (number_of (answered (Err r))) ≡ give_found out a xs
     unfolding give_found
-    found_short e h = rw (eq-eqb a.number 0 z) (row_short out xs 0 a.carried r refl n len e h)
+    found_short r h = rw (← e) (row_short out xs 0 n refl m row p r h)
 
-    found_given : (m : List ℕ) → r ≡ one_number 0 a.carried → n ≤ length out → m ≡ sets out 0 xs → given m r ≡ give_found out a xs
+    found_given : (length row ≤ length out) × (m ≡ sets out 0 row) → given m (number_of (answered (Ok n))) ≡ give_found out a xs
     unfolding give_found
-    found_given m e h f = rw (eq-eqb a.number 0 z) (row_given out xs 0 a.carried r refl n len m e h f)
+    found_given h = rw (← e) (row_given out xs 0 n refl m row p h)
 
 -- ---- the header
 
@@ -54,7 +63,7 @@ pub rate_is_lem : (rates : List KilowattHours) (i : ℕ) → (get_or rates i (ki
 unfolding rate_of
 rate_is_lem rates i = refl
 
-row_long : (h : Header) (n : ℕ) → length (header_row h n) ≡ header_numbers
+pub row_long : (h : Header) (n : ℕ) → length (header_row h n) ≡ header_numbers
 unfolding header_row
 row_long h n =
     length-append (table 12 (letter_of h.identifier)) (totals_row h ++ (table 8 (rate_of h.rates) ++ (n ∷ [])))
@@ -73,73 +82,109 @@ header_of_lem out j k l m h n ej ek el em =
     let last = row_side out l m ((a ++ totals_row h) ++ b) (n ∷ []) 27 next em (omega (arith, la, lb, length-append a (totals_row h), length-append (a ++ totals_row h) b)) in
     last ∙ ap (λ (z : List ℕ). sets out 0 z) (append_assoc (a ++ totals_row h) b (n ∷ []) ∙ append_assoc a (totals_row h) (b ++ (n ∷ [])))
 
-module _ (b out : List ℕ) (a : Answer) (e : a ≡ answer_of (parse b)) (r : ℕ) where
-  read_found : a ≡ read_of b
+module _ (b out : List ℕ) where
+  read_found : (r : Result ℕ Refusal) → answered r ≡ answer_of (parse b) → answered r ≡ read_of b
   unfolding read_of
-  read_found = e
+  read_found r e = e
 
-  pub header_refused : r ≡ one_number a.number a.carried → (a.number ≡ 0 → ⊥) → given out r ≡ give_header b out
+  pub header_refused : (r : Refusal) → answered (Err r) ≡ answer_of (parse b) → given out (number_of (answered (Err r))) ≡ give_header b out
   unfolding give_header
-  header_refused f h = rw (← read_found) (found_refused out (header_row (header_in b) a.carried) a r f h)
+  header_refused r e = found_refused out (header_row (header_in b) (read_of b).carried) (read_of b) r (read_found (Err r) e)
 
-  pub header_short : r ≡ one_number 7 header_numbers → a.number ≡ 0 → length out < header_numbers → given out r ≡ give_header b out
-  unfolding give_header
-  header_short f z h = rw (← read_found) (found_short out (header_row (header_in b) a.carried) a r z header_numbers (row_long (header_in b) a.carried) f h)
+  module _ (n : ℕ) (e : answered (Ok n) ≡ answer_of (parse b)) (h : Header) (eh : h ≡ header_in b) (m row : List ℕ) (p : row ≡ header_row h n) where
+    there : row ≡ header_row (header_in b) (read_of b).carried
+    there = rw (← read_found (Ok n) e, ← eh) p
 
-  pub header_given : (h : Header) (m : List ℕ) → h ≡ header_in b → r ≡ one_number 0 a.carried → a.number ≡ 0 → header_numbers ≤ length out
-      → m ≡ sets out 0 (header_row h a.carried) → given m r ≡ give_header b out
-  unfolding give_header
-  header_given h m eh f z l g =
-      rw (← read_found, ← eh) (found_given out (header_row h a.carried) a r z header_numbers (row_long h a.carried) m f l g)
+    pub header_short : (r : Refusal) → (length out < length row) × (m ≡ out) × (r ≡ Short (length row)) → given m (number_of (answered (Err r))) ≡ give_header b out
+    unfolding give_header
+    header_short r g = found_short out (header_row (header_in b) (read_of b).carried) (read_of b) n (read_found (Ok n) e) m row there r g
+
+    pub header_given : (length row ≤ length out) × (m ≡ sets out 0 row) → given m (number_of (answered (Ok n))) ≡ give_header b out
+    unfolding give_header
+    header_given g = found_given out (header_row (header_in b) (read_of b).carried) (read_of b) n (read_found (Ok n) e) m row there g
 
 -- ---- what differs
 
-module _ (l b out : List ℕ) (x : Difference) (e : x ≡ differs_of l b) (r : ℕ) where
-  pub differs_not : r ≡ one_number x.number x.carried → (x.number ≡ 0 → ⊥) → given out r ≡ give_differs l b out
+module _ (l b out : List ℕ) where
+  pub differs_not : (r : Refusal) → difference_as (Err r) ≡ differs_of l b → given out (number_of (answered (Err r))) ≡ give_differs l b out
   unfolding give_differs
-  differs_not f h = rw (← e) (found_refused out (difference_row x) (answer x.number x.carried) r f h)
+  differs_not r e = rw (← e) (found_refused out (difference_row (difference_as (Err r))) (answered (Err r)) r refl)
 
-  pub differs_short : r ≡ one_number 7 4 → x.number ≡ 0 → length out < 4 → given out r ≡ give_differs l b out
-  unfolding give_differs
-  differs_short f z h = rw (← e) (found_short out (difference_row x) (answer x.number x.carried) r z 4 refl f h)
+  module _ (x : Option Difference) (k : ℕ) (ek : answer 0 k ≡ answer (difference_as (Ok x)).number (difference_as (Ok x)).carried) (e : difference_as (Ok x) ≡ differs_of l b) (m row : List ℕ) (p : row ≡ difference_row (difference_as (Ok x))) where
+    pub differs_short : (r : Refusal) → (length out < length row) × (m ≡ out) × (r ≡ Short (length row)) → given m (number_of (answered (Err r))) ≡ give_differs l b out
+    unfolding give_differs
+    differs_short r g = rw (← e) (found_short out (difference_row (difference_as (Ok x))) (answer (difference_as (Ok x)).number (difference_as (Ok x)).carried) k ek m row p r g)
 
-  pub differs_given : (m : List ℕ) → r ≡ one_number 0 x.carried → x.number ≡ 0 → 4 ≤ length out → m ≡ sets out 0 (x.day ∷ x.part ∷ x.held ∷ x.sent ∷ []) → given m r ≡ give_differs l b out
-  unfolding give_differs
-  differs_given m f z h g = rw (← e) (found_given out (difference_row x) (answer x.number x.carried) r z 4 refl m f h g)
+    pub differs_given : (length row ≤ length out) × (m ≡ sets out 0 row) → given m (number_of (answered (Ok k))) ≡ give_differs l b out
+    unfolding give_differs
+    differs_given g = rw (← e) (found_given out (difference_row (difference_as (Ok x))) (answer (difference_as (Ok x)).number (difference_as (Ok x)).carried) k ek m row p g)
+
+pub carried_bit : (x : Option Difference) → answer 0 (bit (is_some x)) ≡ answer (difference_as (Ok x)).number (difference_as (Ok x)).carried
+carried_bit (Some x) = refl
+carried_bit None = refl
 
 -- ---- the identifier
 
-module _ (l out : List ℕ) (a : ℕ) (e : a ≡ judged l) (r : ℕ) where
-  pub identifier_refused : r ≡ one_number a 0 → (a ≡ 0 → ⊥) → given out r ≡ give_identifier l out
+module _ (l out : List ℕ) where
+  pub identifier_refused : (r : Refusal) → name r ≡ judged l → given out (number_of (answered (Err r))) ≡ give_identifier l out
   unfolding give_identifier
-  identifier_refused f h = rw (← e) (row_refused out (table 12 (letter_of l)) a 0 r f h)
+  identifier_refused r e = row_refused out (table 12 (letter_of l)) (judged l) 0 r e (judged_low l)
 
-  pub identifier_short : r ≡ one_number 7 12 → a ≡ 0 → length out < 12 → given out r ≡ give_identifier l out
-  unfolding give_identifier
-  identifier_short f z h = rw (← e) (row_short out (table 12 (letter_of l)) a 0 r z 12 (length_table 12 (letter_of l)) f h)
+  module _ (z : 0 ≡ judged l) (m : List ℕ) where
+    pub identifier_there : 12 ≤ length l
+    identifier_there = omega (arith, (judged_good l (sym z)).size)
 
-  pub identifier_given : (m : List ℕ) → r ≡ one_number 0 0 → a ≡ 0 → 12 ≤ length out → m ≡ sets out 0 (table 12 (letter_of l)) → given m r ≡ give_identifier l out
-  unfolding give_identifier
-  identifier_given m f z h g = rw (← e) (row_given out (table 12 (letter_of l)) a 0 r z 12 (length_table 12 (letter_of l)) m f h g)
+    pub letters_long : length (take 12 l) ≡ 12
+    letters_long = omega (arith, length-take 12 l, identifier_there)
 
-pub identifier_there : (l : List ℕ) (a : ℕ) → a ≡ judged l → a ≡ 0 → 12 ≤ length l
-identifier_there l a e z = omega (arith, (judged_good l (sym e ∙ z)).size)
+    first_letters : take 12 l ≡ table 12 (letter_of l)
+    first_letters = table_of (take 12 l) 12 (letter_of l) letters_long (λ i h. letter_is l i _ (get_or-take 12 l i 0 h))
 
--- ---- a day's flags
+    pub identifier_short : (r : Refusal) → (length out < length (take 12 l)) × (m ≡ out) × (r ≡ Short (length (take 12 l))) → given m (number_of (answered (Err r))) ≡ give_identifier l out
+    unfolding give_identifier
+    identifier_short r g = row_short out (table 12 (letter_of l)) (judged l) 0 z m (take 12 l) first_letters r g
+
+    pub identifier_given : (length (take 12 l) ≤ length out) × (m ≡ sets out 0 (take 12 l)) → given m (number_of (answered (Ok 0))) ≡ give_identifier l out
+    unfolding give_identifier
+    identifier_given g = row_given out (table 12 (letter_of l)) (judged l) 0 z m (take 12 l) first_letters g
+
+-- ---- a day's flags and half-hours
 
 flags_with : (l : List ℕ) (at e : ℕ) → Sound l at e → flags_in l at ≡ flags_of (day_with l at e)
 unfolding flags_ok
 flags_with l at zero s = eqb-true (flags_in l at) 0 s.flags
 flags_with l at (suc k) s = refl
 
-module _ (l : List ℕ) (d : ℕ) (m : MissingAnswer) (e : m ≡ missing_of l d) where
-  pub flags_refused : (r : ℕ) → r ≡ one_number m.answer 0 → (m.answer ≡ 0 → ⊥) → r ≡ flags_number l d
+module _ (l : List ℕ) (d : ℕ) where
+  pub flags_refused : (r : Refusal) → no_missing (name r) ≡ missing_of l d → number_of (answered (Err r)) ≡ flags_number l d
   unfolding flags_number
-  flags_refused r f h = f ∙ rw (← answer_asked l d m e, ne_eqb m.answer 0 h)
+  flags_refused r e =
+      let a = asked_refused l d r e in
+      rw (ne_eqb (asked l d) 0 (λ z. omega (arith, a, z, above_0 r)), carries_nothing r (omega (arith, a, asked_low l d)), a)
 
-  pub flags_given : (at r : ℕ) → m.answer ≡ 0 → at ≡ room_at (d - first_of l) → r ≡ flags_in l at → r ≡ flags_number l d
+  pub flags_given : (at r : ℕ) → 0 ≡ asked l d → at ≡ room_at (d - first_of l) → r ≡ flags_in l at → number_of (answered (Ok r)) ≡ flags_number l d
   unfolding flags_number slot day_at
   flags_given at r z ea er =
-      let s = sound l (room_at (d - first_of l)) (halves_asked l d m e z).good in
+      let s = sound l (room_at (d - first_of l)) (day_asked l d at z ea).good in
       let f : r ≡ flags_of (day_at l (room_at (d - first_of l))) = er ∙ rw ea (flags_with l (room_at (d - first_of l)) (state_in l (room_at (d - first_of l))) s) in
-      rw (← answer_asked l d m e, eq-eqb m.answer 0 z) (omega (arith, f))
+      rw (← z, f)
+
+  module _ (out : List ℕ) where
+    pub halves_refused : (r : Refusal) → no_missing (name r) ≡ missing_of l d → given out (number_of (answered (Err r))) ≡ give_halves l d out
+    unfolding give_halves
+    halves_refused r e = row_refused out (table 48 (half_number (slot l (d - first_of l)))) (asked l d) (count (slot l (d - first_of l))) r (asked_refused l d r e) (asked_low l d)
+
+    module _ (k : ℕ) (at : ℕ) (z : 0 ≡ asked l d) (ea : at ≡ room_at (d - first_of l)) (ek : k ≡ count (day_at l at)) (m row : List ℕ) (p : row ≡ table 48 (half_number (day_at l at))) where
+      here : row ≡ table 48 (half_number (slot l (d - first_of l)))
+      unfolding slot
+      here = rw (← ea) p
+
+      pub halves_short : (r : Refusal) → (length out < length row) × (m ≡ out) × (r ≡ Short (length row)) → given m (number_of (answered (Err r))) ≡ give_halves l d out
+      unfolding give_halves
+      halves_short r g = row_short out (table 48 (half_number (slot l (d - first_of l)))) (asked l d) (count (slot l (d - first_of l))) z m row here r g
+
+      pub halves_given : (length row ≤ length out) × (m ≡ sets out 0 row) → given m (number_of (answered (Ok k))) ≡ give_halves l d out
+      unfolding give_halves slot
+      halves_given g =
+          let held : k ≡ count (slot l (d - first_of l)) = rw (← ea) ek in
+          rw held (row_given out (table 48 (half_number (slot l (d - first_of l)))) (asked l d) (count (slot l (d - first_of l))) z m row here g)

@@ -10,14 +10,13 @@ use lib.ListN.{length}
 use borrow.Author.Tests.{eqb-true, eq-eqb, ne_eqb, le-leb, lt-leb}
 use Rattle.laws.specs.Table.{table}
 use Rattle.laws.proofs.Split.{by_test}
-use Rattle.calendar.specs.declared.Found.{Found}
-use Rattle.calendar.specs.declared.Found.TheVariants.{Day, Unreal}
+use Rattle.std.specs.Prelude.{Option, Some, None}
 use Rattle.calendar.specs.Calendar.{days_in_all, date_of}
 use Rattle.calendar.specs.Clock.{halves_of_day}
 use Rattle.calendar.specs.Digits.{date_digits, day_on}
 use Rattle.calendar.proofs.Digits.{date_found, day_found}
 use Rattle.block.specs.Answers.{answer}
-use Rattle.block.specs.declared.Answer.{Answer}
+use Rattle.answers.specs.Answer.{Answer}
 use Rattle.days.specs.Day.{flags_of, count}
 use Rattle.ledger.specs.Layout.{first_of, days_of}
 use Rattle.ledger.specs.Rooms.{slot}
@@ -107,6 +106,6 @@ day_again d l = rw (date_found d l)
 pub date_again : (x : ℕ) → day_or_none (day_on x) < days_in_all → date_digits (date_of (day_or_none (day_on x))) ≡ x
 date_again x l = go (day_on x) refl
   where
-    go : (f : Found) → day_on x ≡ f → date_digits (date_of (day_or_none (day_on x))) ≡ x
-    go (Day d) e = rw e (day_found x d e)
-    go Unreal e = absurd (let no : no_day < days_in_all = rw e at l in omega arith)
+    go : (f : Option ℕ) → day_on x ≡ f → date_digits (date_of (day_or_none (day_on x))) ≡ x
+    go (Some d) e = rw e (day_found x d e)
+    go None e = absurd (let no : no_day < days_in_all = rw e at l in omega arith)

@@ -3,37 +3,50 @@
 use Prim.Native.Nat.{ℕ, ◌≤◌, ◌<◌}
 use mathlib.Core.Path.{◌≡◌, ap, ◌∙◌}
 use mathlib.Core.List.{List}
+use native.Mathlib.Omega.{arith}
 use lib.Dec.{eqb, leb}
 use lib.ListN.{length}
 use lib.Seq.{sets}
-use borrow.Author.Tests.{eq-eqb, ne_eqb, le-leb, lt-leb}
+use borrow.Author.Tests.{ne_eqb, le-leb, lt-leb}
 use Rattle.laws.proofs.Split.{by_test}
 use Rattle.block.specs.Answers.{answer}
-use Rattle.block.specs.declared.Answer.{Answer}
+use Rattle.std.specs.Prelude.{Result, Ok, Err}
+use Rattle.std.specs.Result.{result_and}
+use Rattle.answers.specs.declared.Refusal.{Refusal}
+use Rattle.answers.specs.declared.Refusal.TheVariants.{Range}
+use Rattle.answers.specs.Answer.{Answer, answered, judged_as, number_of as name}
+use Rattle.answers.proofs.Numbers.{above_0}
+use Rattle.drawn.proofs.Answered.{carries_none}
 use Rattle.lines.specs.Listing.{shown}
 use Rattle.tariff.specs.Judge.{judged}
 use Rattle.tariff.specs.Rate.{rate_at}
 use Rattle.drawn.specs.Week.{week_text}
 use Rattle.drawn.specs.Asked.{week_judged, week_answer, week_shown}
-use Rattle.desk.specs.Numbers.{one_number}
+use Rattle.desk.specs.Numbers.{one_number, number_of}
 use Rattle.desk.specs.Given.{given, give_row}
 use Rattle.desk.specs.Tables.{rate_judged, rate_number, give_week}
 
+-- ---- a judgement
+
+pub table_told : (l : List ℕ) (r : Result (Unit {0}) Refusal) → judged_as r ≡ judged l → number_of (answered (result_and r (Ok 0))) ≡ one_number (judged l) 0
+table_told l (Ok u) e = rw (← e)
+table_told l (Err r) e = rw (← e, carries_none l r e)
+
 -- ---- the rate
 
-module _ (l : List ℕ) (t r : ℕ) where
-  pub rate_late : 3155760000 ≤ t → r ≡ one_number 6 0 → r ≡ rate_number l t
+module _ (l : List ℕ) (t : ℕ) where
+  pub rate_late : 3155760000 ≤ t → number_of (answered (Err Range)) ≡ rate_number l t
   unfolding rate_number rate_judged
-  rate_late h f = rw (le-leb 3155760000 t h) f
+  rate_late h = rw (le-leb 3155760000 t h)
 
-  module _ (a : ℕ) (h : t < 3155760000) (e : a ≡ judged l) where
-    pub rate_refused : (a ≡ 0 → ⊥) → r ≡ one_number a 0 → r ≡ rate_number l t
+  module _ (h : t < 3155760000) where
+    pub rate_refused : (r : Refusal) → name r ≡ judged l → number_of (answered (Err r)) ≡ rate_number l t
     unfolding rate_number rate_judged
-    rate_refused n f = rw (lt-leb 3155760000 t h, ← e, ne_eqb a 0 n) f
+    rate_refused r e = rw (lt-leb 3155760000 t h, ne_eqb (judged l) 0 (λ z. omega (arith, e, z, above_0 r)), carries_none l r e, e)
 
-    pub rate_given_lem : (rate : ℕ) → a ≡ 0 → rate ≡ rate_at l t → r ≡ one_number 0 rate → r ≡ rate_number l t
+    pub rate_given_lem : (rate : ℕ) → 0 ≡ judged l → rate ≡ rate_at l t → number_of (answered (Ok rate)) ≡ rate_number l t
     unfolding rate_number rate_judged
-    rate_given_lem rate z p f = rw (lt-leb 3155760000 t h, ← e, eq-eqb a 0 z, ← p) f
+    rate_given_lem rate z p = rw (lt-leb 3155760000 t h, ← z, p)
 
 -- ---- the week
 

@@ -9,18 +9,16 @@ use Rattle.quantity.specs.declared.KilowattHours.{KilowattHours}
 use Rattle.quantity.specs.Units.{kilowatt_hours}
 use Rattle.format.specs.Identifier.{ident_length, letter_of}
 use Rattle.block.specs.Answers.{answer}
-use Rattle.block.specs.declared.Answer.{Answer}
+use Rattle.answers.specs.Answer.{Answer}
 use Rattle.block.specs.declared.Header.{Header}
 use Rattle.days.specs.Day.{Day, half_at, count}
 use Rattle.days.specs.Energy.{advance_in}
 use Rattle.ledger.specs.Layout.{first_of}
 use Rattle.ledger.specs.Rooms.{slot}
 use Rattle.ledger.specs.Judged.{judged}
-use Rattle.ledger.specs.Asked.{asked, summary_of}
-use Rattle.ledger.specs.declared.SummaryAnswer.{SummaryAnswer}
+use Rattle.ledger.specs.Asked.{SummaryAnswer, asked, summary_of}
 use Rattle.filing.specs.File.{read_of}
-use Rattle.filing.specs.Differs.{differs_of}
-use Rattle.filing.specs.declared.Difference.{Difference}
+use Rattle.filing.specs.Differs.{DifferenceAnswer, differs_of}
 use Rattle.fields.specs.Views.{header_in}
 use Rattle.desk.specs.Numbers.{one_number, number_of}
 
@@ -70,7 +68,7 @@ give_header b out = give_found out (read_of b) (header_row (header_in b) (read_o
 
 -- ---- where a block differs from what a ledger holds: day, part, what is held, what was sent; 1 is carried, or 0 and the four are 0
 
-abbrev pub difference_row : Difference → List ℕ
+abbrev pub difference_row : DifferenceAnswer → List ℕ
 difference_row x = x.day ∷ x.part ∷ x.held ∷ x.sent ∷ []
 
 unfoldable pub give_differs : List ℕ → List ℕ → List ℕ → Given

@@ -1,15 +1,12 @@
 -- An answer and what it carries as one number for C (docs/RULES.md, "A form for each place": answer number and offset as one number), and day numbers
 -- against dates YYMMDD.
-use Rattle.std.specs.Prelude.{cond, List, ℕ, ◌+◌, ◌-◌, ◌*◌, ◌/◌, ◌%◌, eqb}
-use Rattle.calendar.specs.declared.Found.{Found}
-use Rattle.calendar.specs.declared.Found.TheVariants.{Day, Unreal}
-use Rattle.block.specs.declared.Answer.{Answer}
+use Rattle.std.specs.Prelude.{cond, List, ℕ, ◌+◌, ◌-◌, ◌*◌, ◌/◌, ◌%◌, eqb, Option, Some, None}
+use Rattle.answers.specs.Answer.{Answer}
 use Rattle.days.specs.Day.{flags_of}
-use Rattle.ledger.specs.declared.MissingAnswer.{MissingAnswer}
 use Rattle.ledger.specs.Layout.{first_of, days_of}
 use Rattle.ledger.specs.Rooms.{slot}
 use Rattle.ledger.specs.Judged.{judged}
-use Rattle.ledger.specs.Asked.{asked}
+use Rattle.ledger.specs.Asked.{MissingAnswer, asked}
 
 -- 2 ^ 32 times the answer, and what it carries; and what C finds in such a number
 abbrev pub answer_place : ℕ
@@ -47,6 +44,6 @@ window_number l = cond (eqb (judged l) 0) (one_number 0 (first_and_count (first_
 abbrev pub no_day : ℕ
 no_day = 4294967295
 
-abbrev pub day_or_none : Found → ℕ
-day_or_none (Day d) = d
-day_or_none Unreal = no_day
+abbrev pub day_or_none : Option ℕ → ℕ
+day_or_none (Some d) = d
+day_or_none None = no_day

@@ -1,59 +1,38 @@
-// Rows of numbers, or of characters, written at the beginning of an output that C lends. Each needs room for its row: its caller has looked.
-ghost use Rattle.std.specs.Prelude.{◌≡◌, [], ◌∷◌, ◌≤◌, length};
+// Rows of numbers, or of characters, at the beginning of an output that C lends.
+ghost use Rattle.std.specs.Prelude.{◌≡◌, ◌<◌, ◌≤◌, MatchResult, Ok, length};
 ghost use Rattle.std.proofs.lemmas.List.Edits.{sets};
 ghost use Rattle.laws.specs.Table.{table};
-ghost use Rattle.format.specs.Identifier.{letter_of};
-ghost use Rattle.desk.specs.Given.{header_numbers, rate_of, header_row, summary_row};
+ghost use Rattle.ledger.specs.Asked.{summary_as};
+ghost use Rattle.filing.specs.Differs.{difference_as};
+ghost use Rattle.desk.specs.Given.{header_numbers, totals_row, rate_of, header_row, difference_row, summary_row};
 
-use crate::{
-    HEAD_CUMULATIVE, HEAD_CURRENT, HEAD_DAYS, HEAD_KWH, HEAD_PREVIOUS, HEAD_RATES, HEAD_RESET,
-    HEAD_RESETS, HEAD_TIME,
-};
+use crate::{DIFFERENCE, HEAD_DAYS, HEAD_RATES, HEAD_TIME, HEADER, SUMMARY};
+use answers::Refusal;
 use block::Header;
-use ledger::SummaryAnswer;
+use filing::Difference;
+use ledger::Summary;
 use quantity::KilowattHours;
 
-fn put_totals(out: &mut [u64], a: u64, b: u64, c: u64, d: u64, e: u64, f: u64, g: u64)
-    requires { header_numbers ≤ length out.old }
-    ensures { out.new ≡ sets out.old 12 (a ∷ b ∷ c ∷ d ∷ e ∷ f ∷ g ∷ []) }
+// The row, where the output has room for it: 7 carries the room needed.
+pub fn give<T: Copy>(out: &mut [T], row: &[T]) -> Result<(), Refusal>
+    requires { length row.now < 4294967296 }
+    ensures { MatchResult result
+        (λ _. (length row.now ≤ length out.old) × (out.new ≡ sets out.old 0 row.now))
+        (λ r. (length out.old < length row.now) × (out.new ≡ out.old) × (r ≡ Refusal.Short (length row.now))) }
 {
-    out[HEAD_TIME] = a;
-    out[HEAD_KWH] = b;
-    out[HEAD_CURRENT] = c;
-    out[HEAD_PREVIOUS] = d;
-    out[HEAD_CUMULATIVE] = e;
-    out[HEAD_RESET] = f;
-    out[HEAD_RESETS] = g;
-}
-
-fn put_rates(out: &mut [u64], rates: [KilowattHours; 8])
-    requires { header_numbers ≤ length out.old }
-    ensures { out.new ≡ sets out.old 19 (table 8 (rate_of rates)) }
-{
-    let mut i: usize = 0;
-    while i < block::RATES {
-        let k = rates[i];
-        out[HEAD_RATES + i] = k.0;
-        i += 1;
+    let n = row.len();
+    if out.len() < n {
+        return Err(Refusal::Short(n as u32));
     }
+    out[..n].copy_from_slice(row);
+    Ok(())
 }
 
-fn put_days(out: &mut [u64], days: u64)
-    requires { header_numbers ≤ length out.old }
-    ensures { out.new ≡ sets out.old 27 (days ∷ []) }
+fn put_totals(row: &mut [u64], h: Header)
+    requires { header_numbers ≤ length row.old }
+    ensures { row.new ≡ sets row.old 12 (totals_row h) }
 {
-    out[HEAD_DAYS] = days;
-}
-
-pub fn put_header(out: &mut [u64], h: Header, days: u32)
-    requires { header_numbers ≤ length out.old }
-    ensures { out.new ≡ sets out.old 0 (header_row h days) }
-{
-    let id = h.identifier;
-    let rates = h.rates;
-    format::put_letters(out, id);
-    put_totals(
-        out,
+    row[HEAD_TIME..HEAD_RATES].copy_from_slice(&[
         h.time,
         h.kwh.0,
         h.current.0,
@@ -61,56 +40,53 @@ pub fn put_header(out: &mut [u64], h: Header, days: u32)
         h.cumulative.0,
         h.reset as u64,
         h.count as u64,
-    );
-    put_rates(out, rates);
-    put_days(out, days as u64);
+    ]);
 }
 
-pub fn put_four(out: &mut [u64], a: u64, b: u64, c: u64, d: u64)
-    requires { 4 ≤ length out.old }
-    ensures { out.new ≡ sets out.old 0 (a ∷ b ∷ c ∷ d ∷ []) }
+fn put_rates(row: &mut [u64], rates: [KilowattHours; 8])
+    requires { header_numbers ≤ length row.old }
+    ensures { row.new ≡ sets row.old 19 (table 8 (rate_of rates)) }
 {
-    out[0] = a;
-    out[1] = b;
-    out[2] = c;
-    out[3] = d;
-}
-
-pub fn copy_identifier(out: &mut [u8], l: &[u8])
-    requires { (12 ≤ length out.old) × (12 ≤ length l.now) }
-    ensures { out.new ≡ sets out.old 0 (table 12 (letter_of l.now)) }
-{
-    let mut i: usize = 0;
-    while i < format::IDENTIFIER {
-        out[i] = l[i];
-        i += 1;
+    for i in 0..block::RATES {
+        row[HEAD_RATES + i] = rates[i].0;
     }
 }
 
-fn put_six(out: &mut [u64], a: u64, b: u64, c: u64, d: u64, e: u64, f: u64)
-    requires { 6 ≤ length out.old }
-    ensures { out.new ≡ sets out.old 0 (a ∷ b ∷ c ∷ d ∷ e ∷ f ∷ []) }
+// A block's header, in the block's order, and the number of its days.
+pub fn header_row(h: Header, days: u32) -> [u64; HEADER]
+    ensures { result ≡ header_row h days }
 {
-    out[0] = a;
-    out[1] = b;
-    out[2] = c;
-    out[3] = d;
-    out[4] = e;
-    out[5] = f;
+    let mut row = [0; HEADER];
+    format::put_letters(&mut row, h.identifier);
+    put_totals(&mut row, h);
+    put_rates(&mut row, h.rates);
+    row[HEAD_DAYS] = days as u64;
+    row
 }
 
-pub fn put_summary(out: &mut [u64], s: SummaryAnswer)
-    requires { 6 ≤ length out.old }
-    ensures { out.new ≡ sets out.old 0 (summary_row s) }
+// Where a block differs from what is held, zeros where it does not.
+pub fn difference_row(found: Option<Difference>) -> [u64; DIFFERENCE]
+    ensures { result ≡ difference_row (difference_as (Ok found)) }
 {
-    let held = marks::one_or_0(s.held);
-    put_six(
-        out,
-        held,
-        s.count as u64,
-        s.start.0,
-        s.advance.0,
-        s.reverse as u64,
-        s.level2 as u64,
-    );
+    match found {
+        Some(x) => [x.day as u64, x.part as u64, x.held, x.sent],
+        None => [0; DIFFERENCE],
+    }
+}
+
+// What is held of a day, zeros where nothing is.
+pub fn summary_row(found: Option<Summary>) -> [u64; SUMMARY]
+    ensures { result ≡ summary_row (summary_as (Ok found)) }
+{
+    match found {
+        Some(s) => [
+            1,
+            s.count as u64,
+            s.start.0,
+            s.advance.0,
+            s.reverse as u64,
+            s.level2 as u64,
+        ],
+        None => [0; SUMMARY],
+    }
 }

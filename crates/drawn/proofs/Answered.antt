@@ -2,31 +2,35 @@
 -- Assumes nothing.
 use Prim.Native.Nat.{ℕ, ◌+◌, ◌-◌, ◌≤◌, ◌<◌}
 use mathlib.Core.Path.{◌≡◌, sym, ap, ◌∙◌}
-use mathlib.Core.Bool.{false, false≢true}
+use mathlib.Core.Bool.{false}
 use mathlib.Core.List.{List}
 use native.Mathlib.Omega.{arith}
-use lib.Dec.{leb, ltb}
-use lib.ListN.{length, get_or, take, drop, length-append, length-drop}
+use lib.Dec.{eqb, leb, ltb}
+use Rattle.answers.proofs.Numbers.{above_0}
+use Rattle.tariff.specs.Judge.{sound, clash_in}
+use mathlib.Core.Path.{refl}
+use mathlib.Core.List.{◌∷◌}
+use mathlib.Core.Bool.{not}
+use lib.ListN.{length, take, drop, length-append, length-drop}
 use lib.Seq.{sets, take_all}
 use borrow.Author.Tests.{eq-eqb, ne_eqb, lt-ltb, le-ltb, ltb-false, le-leb, lt-leb, leb-true}
 use Rattle.laws.proofs.Split.{by_test}
-use Rattle.calendar.specs.declared.Found.{Found}
-use Rattle.calendar.specs.declared.Found.TheVariants.{Day, Unreal}
-use Rattle.calendar.specs.Digits.{day_on, is_day}
-use Rattle.format.specs.declared.Number.{Number}
-use Rattle.format.specs.declared.Number.TheVariants.{Is, Bad}
+use Rattle.std.specs.Prelude.{Option, Some, None, Result, Ok, Err, Bool, true, []}
+use Rattle.std.specs.Result.{result_unwrap_or}
+use Rattle.laws.specs.Checks.{check, first_failing}
+use Rattle.answers.specs.declared.Refusal.{Refusal}
+use Rattle.answers.specs.declared.Refusal.TheVariants.{Power, Time, Units, Length, Damaged, Range, Short, NoBlock, Field, Inconsistent, OtherMeter, Differs, Ended, Clash, Loaded}
+use Rattle.answers.specs.Answer.{Answer, number_of, carried_of, answered}
 use Rattle.format.specs.Answers.{Wrote, number_at}
 use Rattle.format.proofs.Writing.{then, same}
-use Rattle.block.specs.declared.Answer.{Answer}
 use Rattle.block.specs.Answers.{answer}
-use Rattle.block.proofs.Checking.{spelt_six}
+use Rattle.block.proofs.Checking.{spelt_below}
 use Rattle.lines.specs.Listing.{refusal, shown, shown_length}
 use Rattle.lines.proofs.Laws.{shown_all, shown_none}
 use Rattle.tariff.specs.Table.{slots_of}
 use Rattle.tariff.specs.Judge.{judged}
-use Rattle.tariff.proofs.Order.{accepted}
 use Rattle.drawn.specs.Week.{days_to, types_to, week_text}
-use Rattle.drawn.specs.Asked.{week_judged, room_answer, week_answer, week_shown, day_in, day_asked, drawn_from, drawn_of}
+use Rattle.drawn.specs.Asked.{week_judged, room_answer, week_answer, week_shown, day_asked, drawn_from, drawn_of}
 use Rattle.drawn.proofs.Days.{days_length}
 
 -- ---- the text
@@ -47,29 +51,62 @@ lines_room l out m d h w = omega (arith, week_length l d, same w)
 
 -- ---- what is answered
 
+-- most refusals carry nothing
+carried_none : (r : Refusal) → (number_of r ≡ 7 → ⊥) → (number_of r ≡ 9 → ⊥) → carried_of r ≡ 0
+carried_none Power h g = refl
+carried_none Time h g = refl
+carried_none Units h g = refl
+carried_none Length h g = refl
+carried_none Damaged h g = refl
+carried_none Range h g = refl
+carried_none (Short n) h g = absurd (h refl)
+carried_none NoBlock h g = refl
+carried_none (Field n) h g = absurd (g refl)
+carried_none Inconsistent h g = refl
+carried_none OtherMeter h g = refl
+carried_none Differs h g = refl
+carried_none Ended h g = refl
+carried_none Clash h g = refl
+carried_none Loaded h g = refl
+
+few_numbers : (a b c : Bool) (n : ℕ) → n ≡ first_failing (check a 6 ∷ check b 6 ∷ check c 14 ∷ []) → (n ≡ 7 → ⊥) × (n ≡ 9 → ⊥)
+few_numbers true b c n e = (λ h. omega arith, λ h. omega arith)
+few_numbers false true c n e = (λ h. omega arith, λ h. omega arith)
+few_numbers false false true n e = (λ h. omega arith, λ h. omega arith)
+few_numbers false false false n e = (λ h. omega arith, λ h. omega arith)
+
 pub judged_late : (l : List ℕ) (d : ℕ) → 36518 < d → 6 ≡ week_judged l d
 unfolding week_judged
 judged_late l d h = rw (lt-ltb 36518 d h)
 
-pub judged_table : (l : List ℕ) (d a : ℕ) → d ≤ 36518 → a ≡ judged l → a ≡ week_judged l d
+judged_table : (l : List ℕ) (d a : ℕ) → d ≤ 36518 → a ≡ judged l → a ≡ week_judged l d
 unfolding week_judged
 judged_table l d a h e = rw (le-ltb 36518 d h, e)
 
+-- what a table is refused for carries nothing
+pub carries_none : (l : List ℕ) (r : Refusal) → number_of r ≡ judged l → carried_of r ≡ 0
+unfolding judged
+carries_none l r e = let few = few_numbers (not (eqb (length l) 440)) (not (sound (slots_of l))) (clash_in (slots_of l)) (number_of r) e in carried_none r few.0 few.1
+
+module _ (l : List ℕ) (d : ℕ) (h : d ≤ 36518) where
+  pub table_refused : (r : Refusal) → number_of r ≡ judged l → answered (Err r) ≡ answer (week_judged l d) 0
+  table_refused r e = rw (carries_none l r e, judged_table l d (number_of r) h e)
+
+  pub table_taken : 0 ≡ judged l → week_judged l d ≡ 0
+  table_taken e = sym (judged_table l d 0 h e)
+
 -- what is taken
-module _ (l : List ℕ) (d a : ℕ) (e : a ≡ week_judged l d) (z : a ≡ 0) where
+module _ (l : List ℕ) (d : ℕ) (z : week_judged l d ≡ 0) where
   in_time_lem : ltb 36518 d ≡ false
   unfolding week_judged
-  in_time_lem = by_test (ltb 36518 d) (λ t. absurd (let six : 6 ≡ 0 = rw t at (sym e ∙ z) in omega arith)) (λ t. t)
+  in_time_lem = by_test (ltb 36518 d) (λ t. absurd (let six : 6 ≡ 0 = rw t at z in omega arith)) (λ t. t)
 
   pub taken_day : d ≤ 36518
   taken_day = ltb-false 36518 d in_time_lem
 
   pub taken_table : judged l ≡ 0
   unfolding week_judged
-  taken_table = rw in_time_lem at (sym e ∙ z)
-
-  pub taken_long : length l ≡ 440
-  taken_long = (accepted l taken_table).long
+  taken_table = rw in_time_lem at z
 
 -- the text, by its length
 module _ (l out : List ℕ) (d n : ℕ) (e : n ≡ length (types_to (slots_of l) 8)) where
@@ -94,124 +131,65 @@ module _ (l out : List ℕ) (d n : ℕ) (e : n ≡ length (types_to (slots_of l)
     fit_answer = rw (text_bytes, le-leb (420 + n) (length out) h)
 
 -- the week
-module _ (l out : List ℕ) (d a : ℕ) (e : a ≡ week_judged l d) where
-  module _ (h : a ≡ 0 → ⊥) where
+refused_number : (l : List ℕ) (d : ℕ) (r : Refusal) → answered (Err r) ≡ answer (week_judged l d) 0 → eqb (week_judged l d) 0 ≡ false
+refused_number l d r e = let n : number_of r ≡ week_judged l d = ap (λ (x : Answer). x.number) e in ne_eqb (week_judged l d) 0 (λ z. omega (arith, n, above_0 r))
+
+module _ (l out : List ℕ) (d : ℕ) where
+  module _ (r : Refusal) (e : answered (Err r) ≡ answer (week_judged l d) 0) where
     pub stays_shown : out ≡ week_shown l d out
     unfolding week_shown
-    stays_shown = rw (← e, ne_eqb a 0 h)
+    stays_shown = rw (refused_number l d r e)
 
-    pub refused_answer : answer a 0 ≡ week_answer l d (length out)
+    pub refused_answer : answered (Err r) ≡ week_answer l d (length out)
     unfolding week_answer
-    refused_answer = rw (← e, ne_eqb a 0 h)
+    refused_answer = rw (refused_number l d r e) e
 
-  module _ (h : a ≡ 0) where
-    pub week_shown_lem : (m : List ℕ) → m ≡ shown out (week_text l d) → m ≡ week_shown l d out
+  module _ (z : week_judged l d ≡ 0) where
+    pub taken_shown : (m : List ℕ) → m ≡ shown out (week_text l d) → m ≡ week_shown l d out
     unfolding week_shown
-    week_shown_lem m p = rw (← e, eq-eqb a 0 h) p
+    taken_shown m p = rw (eq-eqb (week_judged l d) 0 z) p
 
-    pub week_answer_lem : (r : Answer) → r ≡ room_answer (length (week_text l d)) (length out) → r ≡ week_answer l d (length out)
+    pub taken_answer : (a : Answer) → a ≡ room_answer (length (week_text l d)) (length out) → a ≡ week_answer l d (length out)
     unfolding week_answer
-    week_answer_lem r p = rw (← e, eq-eqb a 0 h) p
+    taken_answer a p = rw (eq-eqb (week_judged l d) 0 z) p
 
 -- ---- the program
 
-no_day_lem : {d : ℕ} → Day d ≡ Unreal → ⊥
-no_day_lem {d} e = false≢true (sym (ap is_day e))
+pub date_fits : (b : List ℕ) (r : Option ℕ) (x : ℕ) → r ≡ number_at b 0 6 → r ≡ Some x → x < 4294967296
+date_fits b r x e h = omega (arith, spelt_below b 0 6 r e x h)
+
+module _ (l : List ℕ) (d : ℕ) where
+  pub prints_refusal : (r : Refusal) → answered (Err r) ≡ answer (week_judged l d) 0 → refusal (number_of r) ≡ drawn_from l (Some d)
+  unfolding drawn_from
+  prints_refusal r e = let n : number_of r ≡ week_judged l d = ap (λ (x : Answer). x.number) e in rw (refused_number l d r e, n)
+
+  pub prints_text : week_judged l d ≡ 0 → week_text l d ≡ drawn_from l (Some d)
+  unfolding drawn_from
+  prints_text z = rw (eq-eqb (week_judged l d) 0 z)
+
+-- how much of the output is text
+pub printed_length : (out text : List ℕ) (r : Result ℕ Refusal) → answered r ≡ room_answer (length text) (length out) → (result_unwrap_or r 0 ≡ shown_length out text) × (result_unwrap_or r 0 ≤ length out)
+unfolding shown_length
+printed_length out text (Ok n) e =
+    by_test (leb (length text) (length out))
+    (λ t. let is : n ≡ length text = ap (λ (x : Answer). x.carried) (rw t at e) in (rw t is, omega (arith, is, leb-true (length text) (length out) t)))
+    (λ t. let no : 0 ≡ 7 = ap (λ (x : Answer). x.number) (rw t at e) in absurd (omega arith))
+printed_length out text (Err r) e =
+    by_test (leb (length text) (length out))
+    (λ t. let no : number_of r ≡ 0 = ap (λ (x : Answer). x.number) (rw t at e) in absurd (omega (arith, above_0 r)))
+    (λ t. (rw t, omega arith))
 
 module _ (b : List ℕ) where
-  pub date_fits : (r : Number) (x : ℕ) → r ≡ number_at b 0 6 → r ≡ Is x → x < 4294967296
-  date_fits r x e h = omega (arith, spelt_six b 0 r x e h)
+  pub prints_no_day : None ≡ day_asked b → refusal 6 ≡ drawn_of b
+  unfolding drawn_of drawn_from
+  prints_no_day e = rw (← e)
 
-  pub day_is : (r : Number) (x : ℕ) (f : Found) → r ≡ number_at b 0 6 → r ≡ Is x → f ≡ day_on x → f ≡ day_in (number_at b 0 6)
-  day_is r x f e h g = rw (← e, h) g
-
-  pub day_bad : (r : Number) → r ≡ number_at b 0 6 → r ≡ Bad → Unreal ≡ day_in (number_at b 0 6)
-  day_bad r e h = rw (← e, h)
-
-  pub asked_short : length b < 7 → Unreal ≡ day_asked b
-  unfolding day_asked
-  asked_short h = rw (lt-leb 7 (length b) h)
-
-  module _ (x : ℕ) (long : 7 ≤ length b) (e : x ≡ get_or b 6 0) where
-    pub asked_other : (x ≡ 10 → ⊥) → Unreal ≡ day_asked b
-    unfolding day_asked
-    asked_other h = rw (le-leb 7 (length b) long, ← e, ne_eqb x 10 h)
-
-    pub asked_day : (f : Found) → x ≡ 10 → f ≡ day_in (number_at b 0 6) → f ≡ day_asked b
-    unfolding day_asked
-    asked_day f h p = rw (le-leb 7 (length b) long, ← e, eq-eqb x 10 h) p
-
--- the answer to a text with room or without: what of the output is text
-module _ (out text : List ℕ) (r : Answer) (e : r ≡ room_answer (length text) (length out)) where
-  room_none : (r.number ≡ 0 → ⊥) → 0 ≡ shown_length out text
-  unfolding shown_length
-  room_none h =
-      by_test (leb (length text) (length out))
-      (λ t. absurd (h (ap (λ (x : Answer). x.number) e ∙ rw t)))
-      (λ t. rw t)
-
-  room_all : r.number ≡ 0 → (r.carried ≡ shown_length out text) × (r.carried ≤ length out)
-  unfolding shown_length
-  room_all h =
-      let is : r.carried ≡ length text = ap (λ (x : Answer). x.carried) e in
-      by_test (leb (length text) (length out))
-      (λ t. (rw t is, rw is (leb-true (length text) (length out) t)))
-      (λ t. absurd (let seven : r.number ≡ 7 = ap (λ (x : Answer). x.number) e ∙ rw t in omega arith))
-
-module _ (l out : List ℕ) (d a : ℕ) (e : a ≡ week_judged l d) where
-  module _ (h : a ≡ 0 → ⊥) where
-    from_refused : refusal a ≡ drawn_from l (Day d)
-    unfolding drawn_from
-    from_refused = rw (← e, ne_eqb a 0 h)
-
-    pub refused_shown : (m : List ℕ) → m ≡ shown out (refusal a) → m ≡ shown out (drawn_from l (Day d))
-    refused_shown m p = rw (← from_refused) p
-
-    pub refused_length : (n : ℕ) → n ≡ shown_length out (refusal a) → n ≡ shown_length out (drawn_from l (Day d))
-    refused_length n p = rw (← from_refused) p
-
-  module _ (h : a ≡ 0) where
-    from_text : week_text l d ≡ drawn_from l (Day d)
-    unfolding drawn_from
-    from_text = rw (← e, eq-eqb a 0 h)
-
-    pub text_shown : (m : List ℕ) → m ≡ shown out (week_text l d) → m ≡ shown out (drawn_from l (Day d))
-    text_shown m p = rw (← from_text) p
-
-    module _ (r : Answer) (p : r ≡ room_answer (length (week_text l d)) (length out)) where
-      pub text_none : (r.number ≡ 0 → ⊥) → 0 ≡ shown_length out (drawn_from l (Day d))
-      text_none g = rw (← from_text) (room_none out (week_text l d) r p g)
-
-      pub text_length : r.number ≡ 0 → r.carried ≡ shown_length out (drawn_from l (Day d))
-      text_length g = rw (← from_text) (room_all out (week_text l d) r p g).0
-
-      pub text_fits : r.number ≡ 0 → r.carried ≤ length out
-      text_fits g = (room_all out (week_text l d) r p g).1
-
-module _ (b : List ℕ) (f : Found) (e : f ≡ day_asked b) where
-  module _ (h : f ≡ Unreal) (out : List ℕ) where
-    drawn_unreal : refusal 6 ≡ drawn_of b
-    unfolding drawn_of drawn_from
-    drawn_unreal = rw (← e, h)
-
-    pub unreal_shown : (m : List ℕ) → m ≡ shown out (refusal 6) → m ≡ shown out (drawn_of b)
-    unreal_shown m p = rw (← drawn_unreal) p
-
-    pub unreal_length : (n : ℕ) → n ≡ shown_length out (refusal 6) → n ≡ shown_length out (drawn_of b)
-    unreal_length n p = rw (← drawn_unreal) p
-
-  module _ (d : ℕ) (h : f ≡ Day d) where
+  module _ (d : ℕ) (e : Some d ≡ day_asked b) where
     pub asked_long : 7 ≤ length b
     unfolding day_asked
-    asked_long = by_test (leb 7 (length b)) (λ t. leb-true 7 (length b) t) (λ t. absurd (no_day_lem (sym h ∙ e ∙ rw t)))
+    asked_long = by_test (leb 7 (length b)) (λ t. leb-true 7 (length b) t) (λ t. absurd (let no : Some d ≡ None = rw t at e in cc))
 
     -- the table's bytes are all that follows
-    drawn_day : drawn_from (take (length b - 7) (drop 7 b)) (Day d) ≡ drawn_of b
+    pub prints_day : drawn_from (take (length b - 7) (drop 7 b)) (Some d) ≡ drawn_of b
     unfolding drawn_of
-    drawn_day = rw (← e, h, take_all (length b - 7) (drop 7 b) (omega (arith, length-drop 7 b)))
-
-    pub day_shown : (m out : List ℕ) → m ≡ shown out (drawn_from (take (length b - 7) (drop 7 b)) (Day d)) → m ≡ shown out (drawn_of b)
-    day_shown m out p = rw (← drawn_day) p
-
-    pub day_length : (n : ℕ) (out : List ℕ) → n ≡ shown_length out (drawn_from (take (length b - 7) (drop 7 b)) (Day d)) → n ≡ shown_length out (drawn_of b)
-    day_length n out p = rw (← drawn_day) p
+    prints_day = rw (← e, take_all (length b - 7) (drop 7 b) (omega (arith, length-drop 7 b)))

@@ -1,6 +1,6 @@
 -- The days' lines, in the form that the proofs of the code look for.
 -- Assumes nothing.
-use Prim.Native.Nat.{ℕ, zero, suc, ◌+◌, ◌*◌, ◌%◌, ◌≤◌, ◌<◌}
+use Prim.Native.Nat.{ℕ, zero, suc, ◌+◌, ◌*◌, ◌%◌, ◌<◌}
 use mathlib.Core.Path.{◌≡◌, refl, ◌∙◌, subst}
 use mathlib.Core.Bool.{Bool, true, false, not, ◌||◌}
 use mathlib.Core.List.{List, [], ◌∷◌, ◌++◌}
@@ -33,9 +33,6 @@ module _ (l : List ℕ) (t : ℕ) where
       → (found || not (eqb rate first)) ≡ changes l t (n + 1)
   unfolding changes
   changes_turn n first rate found p q r = rw (add-one, p, q, r)
-
-  pub changes_end : (n : ℕ) (found : Bool) → found ≡ changes l t n → n ≤ 30 → 30 ≤ n → found ≡ changes l t 30
-  changes_end n found p a b = let q : n ≡ 30 = omega arith in rw q at p
 
   module _ (b : Bool) (p : b ≡ changes l t 30) where
     pub mark_plus : b ≡ true → 43 ≡ mark_at l t
@@ -78,9 +75,6 @@ module _ (s : List ℕ) (d : ℕ) (l : List ℕ) where
       let z : 60 * i ≡ 0 + 60 * i = omega arith in
       let at : Wrote m (0 + 60 * i) 60 (day_line s (d + i)) k = subst (λ (j : ℕ). Wrote m j 60 (day_line s (d + i)) k) z q in
       rw add-one (subst (λ (j : ℕ). Wrote l 0 j (days_to s d i ++ day_line s (d + i)) k) e (then p at))
-
-  pub days_end : (i : ℕ) (m : List ℕ) → Wrote l 0 (60 * i) (days_to s d i) m → i ≤ 7 → 7 ≤ i → Wrote l 0 420 (days_to s d 7) m
-  days_end i m p a b = let e : i ≡ 7 = omega arith in rw e at p
 
 head_length : (s : List ℕ) (d : ℕ) → length (day_head s d) ≡ 11
 head_length s d = simp (length-append, length_digits)

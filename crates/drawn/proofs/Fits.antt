@@ -11,8 +11,7 @@ use borrow.Author.Tests.{eqb-true, ne_eqb, ltb-true, lt-ltb, leb-true, le-leb}
 use Rattle.laws.specs.Bits.{bit}
 use Rattle.laws.proofs.Split.{by_test, by_dec}
 use Rattle.laws.proofs.Bools.{and_left, and_right}
-use Rattle.calendar.specs.declared.Found.{Found}
-use Rattle.calendar.specs.declared.Found.TheVariants.{Day, Unreal}
+use Rattle.std.specs.Prelude.{Option, Some, None}
 use native.Mathlib.Decide.{ℕ_discrete}
 use Rattle.lines.specs.Listing.{newline, refusal}
 use Rattle.lines.proofs.Laws.{refusal_length}
@@ -158,12 +157,12 @@ refusal_fits a = omega (arith, refusal_length a (cond (ltb a 10) 1 2) refl, few 
     few true = omega arith
     few false = omega arith
 
-from_fits : (l : List ℕ) (f : Found) → length (drawn_from l f) ≤ longest_week
+from_fits : (l : List ℕ) (f : Option ℕ) → length (drawn_from l f) ≤ longest_week
 unfolding drawn_from
-from_fits l Unreal = omega (arith, refusal_fits 6)
-from_fits l (Day d) =
+from_fits l None = omega (arith, refusal_fits 6)
+from_fits l (Some d) =
     by_test (eqb (week_judged l d) 0)
-    (λ t. rw t (week_fits l d (taken_table l d (week_judged l d) refl (eqb-true (week_judged l d) 0 t))))
+    (λ t. rw t (week_fits l d (taken_table l d (eqb-true (week_judged l d) 0 t))))
     (λ t. rw t (omega (arith, refusal_fits (week_judged l d))))
 
 pub print_fits : PrintFits

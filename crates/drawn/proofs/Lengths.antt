@@ -1,11 +1,10 @@
 -- The lines of the day types: what the table has, and how long they are.
 -- Assumes nothing.
-use Prim.Native.Nat.{ℕ, suc, ◌+◌, ◌≤◌}
+use Prim.Native.Nat.{ℕ, suc, ◌+◌}
 use mathlib.Core.Path.{◌≡◌, refl, sym, ◌∙◌}
 use mathlib.Core.Bool.{Bool, true, false, not}
 use mathlib.Core.List.{List, [], ◌∷◌, ◌++◌}
 use native.Mathlib.Numerals.{add-one}
-use native.Mathlib.Omega.{arith}
 use lib.Dec.{eqb}
 use lib.ListN.{length, length-append}
 use borrow.Author.Tests.{eq-eqb, ne_eqb, not-true, not-false}
@@ -14,7 +13,7 @@ use Rattle.format.specs.Numbers.{decimal, digits_in}
 use Rattle.format.proofs.Numbers.{length_digits}
 use Rattle.lines.specs.Listing.{space, newline, word}
 use Rattle.tariff.specs.declared.Entry.{Entry}
-use Rattle.tariff.specs.Table.{slot_at, slots_to, any_of}
+use Rattle.tariff.specs.Table.{any_of}
 use Rattle.drawn.specs.Week.{switches, switch, switch_to, clock_of, before, time_text, time_at, times_to, names, type_line, types_to}
 
 -- ---- the rate that a day type switches to
@@ -29,18 +28,13 @@ module _ (daytype minute : ℕ) where
     unfolding switch
     switch_no h = rw (← p, h)
 
-  module _ (l : List ℕ) where
-    pub switch_none : 0 ≡ switch_to daytype minute (slots_to l 0)
-    unfolding switch_to slots_to
-    switch_none = refl
+  pub switch_none : 0 ≡ switch_to daytype minute []
+  unfolding switch_to
+  switch_none = refl
 
-    pub switch_turn : (i rate r : ℕ) (e : Entry) → rate ≡ switch_to daytype minute (slots_to l i) → e ≡ slot_at l i → r ≡ switch daytype minute e rate
-        → r ≡ switch_to daytype minute (slots_to l (i + 1))
-    unfolding switch_to slots_to
-    switch_turn i rate r e p q s = rw (add-one, s, q, p)
-
-    pub switch_end : (i n rate : ℕ) → rate ≡ switch_to daytype minute (slots_to l i) → i ≤ n → n ≤ i → rate ≡ switch_to daytype minute (slots_to l n)
-    switch_end i n rate p a b = let q : i ≡ n = omega arith in rw q at p
+  pub switch_next : (e : Entry) (es : List Entry) → switch daytype minute e (switch_to daytype minute es) ≡ switch_to daytype minute (e ∷ es)
+  unfolding switch_to
+  switch_next e es = refl
 
 -- ---- how long a time is
 
@@ -73,9 +67,6 @@ module _ (es : List Entry) (daytype : ℕ) where
   unfolding times_to
   times_length_on m n k rate p q r = rw (add-one, p, r, q) (sym (length-append (times_to es daytype m) (time_at es daytype m)))
 
-  pub times_length_end : (m n : ℕ) → n ≡ length (times_to es daytype m) → m ≤ 1440 → 1440 ≤ m → n ≡ length (times_to es daytype 1440)
-  times_length_end m n p a b = let q : m ≡ 1440 = omega arith in rw q at p
-
   module _ (b : Bool) (p : b ≡ any_of (names daytype) es) where
     pub type_length_none : not b ≡ true → 0 ≡ length (type_line es daytype)
     unfolding type_line
@@ -93,6 +84,3 @@ module _ (es : List Entry) where
   pub types_length_on : (i n k : ℕ) → n ≡ length (types_to es i) → k ≡ length (type_line es (i + 1)) → n + k ≡ length (types_to es (i + 1))
   unfolding types_to
   types_length_on i n k p r = rw (p, r) (rw add-one (sym (length-append (types_to es i) (type_line es (suc i)))))
-
-  pub types_length_end : (i n : ℕ) → n ≡ length (types_to es i) → i ≤ 8 → 8 ≤ i → n ≡ length (types_to es 8)
-  types_length_end i n p a b = let q : i ≡ 8 = omega arith in rw q at p

@@ -75,9 +75,6 @@ module _ (es : List Entry) (daytype : ℕ) where
   unfolding times_to
   times_on l o q i m n k rate p e r = rw add-one (then p (rw e at r))
 
-  pub times_end : (l o : List ℕ) (i m n : ℕ) → Wrote l i n (times_to es daytype m) o → m ≤ 1440 → 1440 ≤ m → Wrote l i n (times_to es daytype 1440) o
-  times_end l o i m n p a b = let e : m ≡ 1440 = omega arith in rw e at p
-
   -- ---- a line
 
   module _ (l : List ℕ) (i : ℕ) (b : Bool) (p : b ≡ any_of (names daytype) es) where
@@ -131,9 +128,3 @@ module _ (es : List Entry) where
   pub types_on : (l o q : List ℕ) (at i n k : ℕ) → Wrote l at n (types_to es i) o → Wrote o (at + n) k (type_line es (i + 1)) q → Wrote l at (n + k) (types_to es (i + 1)) q
   unfolding types_to
   types_on l o q at i n k p r = rw add-one (then p (rw add-one at r))
-
-  pub types_end : (l o : List ℕ) (at i n : ℕ) → Wrote l at n (types_to es i) o → i ≤ 8 → 8 ≤ i → Wrote l at (length (types_to es 8)) (types_to es 8) o
-  types_end l o at i n p a b =
-      let e : i ≡ 8 = omega arith in
-      let w : Wrote l at n (types_to es 8) o = rw e at p in
-      wrote_as (length (types_to es 8)) (types_to es 8) w refl (sym w.long)

@@ -1,12 +1,8 @@
 -- What is answered where a week is asked for, and what the program prints of its input: YYMMDD, a newline, and the bytes of a table.
-use Rattle.std.specs.Prelude.{ℕ, cond, ◌&&◌, List, eqb, ltb, leb, length, get_or, drop}
-use Rattle.calendar.specs.declared.Found.{Found}
-use Rattle.calendar.specs.declared.Found.TheVariants.{Day, Unreal}
+use Rattle.std.specs.Prelude.{ℕ, cond, ◌&&◌, List, eqb, ltb, leb, length, get_or, drop, Option, Some, None}
 use Rattle.calendar.specs.Digits.{day_on}
-use Rattle.format.specs.declared.Number.{Number}
-use Rattle.format.specs.declared.Number.TheVariants.{Is, Bad}
 use Rattle.format.specs.Answers.{number_at}
-use Rattle.block.specs.declared.Answer.{Answer}
+use Rattle.answers.specs.Answer.{Answer}
 use Rattle.block.specs.Answers.{answer}
 use Rattle.lines.specs.Listing.{newline, refusal, shown}
 use Rattle.tariff.specs.Judge.{judged}
@@ -29,20 +25,20 @@ week_shown l d out = cond (eqb (week_judged l d) 0) (shown out (week_text l d)) 
 
 -- ---- the program
 
-abbrev pub day_in : Number → Found
-day_in (Is x) = day_on x
-day_in Bad = Unreal
+abbrev pub day_in : Option ℕ → Option ℕ
+day_in (Some x) = day_on x
+day_in None = None
 
 -- six digits and the newline
 abbrev pub asked_bytes : ℕ
 asked_bytes = 7
 
-unfoldable pub day_asked : List ℕ → Found
-day_asked b = cond (leb asked_bytes (length b) && eqb (get_or b 6 0) newline) (day_in (number_at b 0 6)) Unreal
+unfoldable pub day_asked : List ℕ → Option ℕ
+day_asked b = cond (leb asked_bytes (length b) && eqb (get_or b 6 0) newline) (day_in (number_at b 0 6)) None
 
-unfoldable pub drawn_from : List ℕ → Found → List ℕ
-drawn_from l (Day d) = cond (eqb (week_judged l d) 0) (week_text l d) (refusal (week_judged l d))
-drawn_from l Unreal = refusal 6
+unfoldable pub drawn_from : List ℕ → Option ℕ → List ℕ
+drawn_from l (Some d) = cond (eqb (week_judged l d) 0) (week_text l d) (refusal (week_judged l d))
+drawn_from l None = refusal 6
 
 unfoldable pub drawn_of : List ℕ → List ℕ
 drawn_of b = drawn_from (drop asked_bytes b) (day_asked b)

@@ -1,12 +1,12 @@
 // The lines of the day types that are used. How long they are is reckoned first, in the same turns, so that a text without room is not begun.
-ghost use Rattle.std.specs.Prelude.{◌≡◌, ◌+◌, ◌<◌, ◌≤◌, length};
+ghost use Rattle.std.specs.Prelude.{◌≡◌, ◌+◌, ◌≤◌, length};
 ghost use Rattle.format.specs.Answers.{Wrote};
-ghost use Rattle.tariff.specs.Table.{table_size, slots_of, any_of};
+ghost use Rattle.tariff.specs.Table.{slots_of, any_of};
 ghost use Rattle.tariff.specs.Judge.{most_types};
 ghost use Rattle.drawn.specs.Week.{switches, switch, switch_to, minutes_of_day, before, switch_text, time_text, times_to, names, type_line, types_to};
 
 use lines::{NEWLINE, SPACE, put_word};
-use tariff::Entry;
+use tariff::{Entry, Kind, Table, slots};
 
 const MINUTES_OF_HOUR: u32 = tariff::MINUTES as u32;
 
@@ -22,7 +22,7 @@ pub const TIME_TEXT: usize = 8;
 fn switches(daytype: u8, minute: u32, e: Entry) -> bool
     ensures { result ≡ switches daytype minute e }
 {
-    (e.kind == tariff::TIME) & (e.daytype == daytype) & (tariff::minute(e) == minute)
+    e.is(Kind::Time) & (e.daytype == daytype) & (tariff::minute(e) == minute)
 }
 
 fn switch(daytype: u8, minute: u32, e: Entry, rate: u8) -> u8
@@ -35,41 +35,22 @@ fn switch(daytype: u8, minute: u32, e: Entry, rate: u8) -> u8
 }
 
 // The rate that a day type switches to at a minute, 0 where it does not.
-fn switch_to(l: &[u8], daytype: u8, minute: u32) -> u8
-    requires { length l.now ≡ table_size }
+fn switch_to(l: &Table, daytype: u8, minute: u32) -> u8
     ensures { result ≡ switch_to daytype minute (slots_of l.now) }
 {
-    let mut rate: u8 = 0;
-    let mut i: usize = 0;
-    while i < tariff::SLOTS {
-        let e = tariff::slot(l, i);
-        rate = switch(daytype, minute, e, rate);
-        i += 1;
-    }
-    rate
+    slots::fold(l, 0, |rate, e| switch(daytype, minute, e, rate))
 }
 
 fn names(daytype: u8, e: Entry) -> bool
     ensures { result ≡ names daytype e }
 {
-    let uses = (e.kind == tariff::EXCEPTION)
-        | (e.kind == tariff::WEEKDAYS)
-        | (e.kind == tariff::DEFAULT);
-    uses & (e.daytype == daytype)
+    tariff::uses(e) & (e.daytype == daytype)
 }
 
-fn is_used(l: &[u8], daytype: u8) -> bool
-    requires { length l.now ≡ table_size }
+fn is_used(l: &Table, daytype: u8) -> bool
     ensures { result ≡ any_of (names daytype) (slots_of l.now) }
 {
-    let mut found = false;
-    let mut i: usize = 0;
-    while i < tariff::SLOTS {
-        let e = tariff::slot(l, i);
-        found = found | names(daytype, e);
-        i += 1;
-    }
-    found
+    slots::any(l, tariff::SLOTS, |e| names(daytype, e))
 }
 
 // ---- how long the lines are
@@ -83,22 +64,17 @@ fn time_length(daytype: u8, minute: u32, rate: u8) -> usize
     TIME_TEXT
 }
 
-fn times_length(l: &[u8], daytype: u8) -> usize
-    requires { length l.now ≡ table_size }
+fn times_length(l: &Table, daytype: u8) -> usize
     ensures { (result ≡ length (times_to (slots_of l.now) daytype minutes_of_day)) × (result ≤ 11520) }
 {
-    let mut n: usize = 0;
-    let mut m: u32 = 0;
-    while m < MINUTES_OF_DAY {
-        let rate = switch_to(l, daytype, m);
-        n += time_length(daytype, m, rate);
-        m += 1;
+    let mut n = 0;
+    for m in 0..MINUTES_OF_DAY {
+        n += time_length(daytype, m, switch_to(l, daytype, m));
     }
     n
 }
 
-fn type_length(l: &[u8], daytype: u8) -> usize
-    requires { length l.now ≡ table_size }
+fn type_length(l: &Table, daytype: u8) -> usize
     ensures { (result ≡ length (type_line (slots_of l.now) daytype)) × (result ≤ 11521) }
 {
     if !is_used(l, daytype) {
@@ -108,20 +84,17 @@ fn type_length(l: &[u8], daytype: u8) -> usize
 }
 
 // Of all day types.
-pub fn lines_length(l: &[u8]) -> usize
-    requires { length l.now ≡ table_size }
+pub fn lines_length(l: &Table) -> usize
     ensures { (result ≡ length (types_to (slots_of l.now) most_types)) × (result ≤ 92168) }
 {
-    let mut n: usize = 0;
-    let mut i: usize = 0;
-    while i < TYPES {
-        n += type_length(l, (i + 1) as u8);
-        i += 1;
+    let mut n = 0;
+    for i in 0..tariff::MOST_TYPES {
+        n += type_length(l, i + 1);
     }
     n
 }
 
-// ---- the lines written; each function returns how many bytes it wrote
+// ---- the lines written; what has no one length returns how many bytes it wrote
 
 fn put_before(out: &mut [u8], at: usize, daytype: u8, minute: u32)
     requires { at + 2 ≤ length out.old }
@@ -156,22 +129,19 @@ fn put_time(out: &mut [u8], at: usize, daytype: u8, minute: u32, rate: u8) -> us
     TIME_TEXT
 }
 
-fn put_times(out: &mut [u8], at: usize, l: &[u8], daytype: u8) -> usize
-    requires { (length l.now ≡ table_size) × (at + length (times_to (slots_of l.now) daytype minutes_of_day) ≤ length out.old) }
+fn put_times(out: &mut [u8], at: usize, l: &Table, daytype: u8) -> usize
+    requires { (at + length (times_to (slots_of l.now) daytype minutes_of_day) ≤ length out.old) }
     ensures { Wrote out.old at result (times_to (slots_of l.now) daytype minutes_of_day) out.new × (result ≤ 11520) }
 {
-    let mut n: usize = 0;
-    let mut m: u32 = 0;
-    while m < MINUTES_OF_DAY {
-        let rate = switch_to(l, daytype, m);
-        n += put_time(out, at + n, daytype, m, rate);
-        m += 1;
+    let mut n = 0;
+    for m in 0..MINUTES_OF_DAY {
+        n += put_time(out, at + n, daytype, m, switch_to(l, daytype, m));
     }
     n
 }
 
-fn put_type(out: &mut [u8], at: usize, l: &[u8], daytype: u8) -> usize
-    requires { (length l.now ≡ table_size) × (at + length (type_line (slots_of l.now) daytype) ≤ length out.old) }
+fn put_type(out: &mut [u8], at: usize, l: &Table, daytype: u8) -> usize
+    requires { (at + length (type_line (slots_of l.now) daytype) ≤ length out.old) }
     ensures { Wrote out.old at result (type_line (slots_of l.now) daytype) out.new × (result ≤ 11521) }
 {
     if !is_used(l, daytype) {
@@ -182,14 +152,12 @@ fn put_type(out: &mut [u8], at: usize, l: &[u8], daytype: u8) -> usize
     n + 1
 }
 
-pub fn put_lines(out: &mut [u8], at: usize, l: &[u8])
-    requires { (length l.now ≡ table_size) × (at + length (types_to (slots_of l.now) most_types) ≤ length out.old) }
+pub fn put_lines(out: &mut [u8], at: usize, l: &Table)
+    requires { (at + length (types_to (slots_of l.now) most_types) ≤ length out.old) }
     ensures { Wrote out.old at (length (types_to (slots_of l.now) most_types)) (types_to (slots_of l.now) most_types) out.new }
 {
-    let mut n: usize = 0;
-    let mut i: usize = 0;
-    while i < TYPES {
-        n += put_type(out, at + n, l, (i + 1) as u8);
-        i += 1;
+    let mut n = 0;
+    for i in 0..tariff::MOST_TYPES {
+        n += put_type(out, at + n, l, i + 1);
     }
 }

@@ -1,157 +1,52 @@
-// An editor's switching table, as a script writes it (docs/TARIFF.md has the bytes): an entry goes into the first unused slot, two slots change places, a slot is written by hand. Nothing is judged here.
-// Every function takes any line and any table, and answers one number, as the library for C does, NONE for a line that is not understood.
+// An editor's switching table, as a script writes it (docs/TARIFF.md has the bytes): an entry goes into the first unused slot, two slots change places, a slot is written
+// by hand. Nothing is judged here. Every function takes any table, and has no answer where there is no such slot.
 #![tactic(auto)]
 
-ghost use Rattle.std.specs.Prelude.{◌≤◌};
-ghost use Rattle.tariff.specs.Table.{slot_count};
+use commands::{EditorCommand, Slot};
+use memory::{DONE, Table};
+use tariff::{Kind, SLOT, SLOTS};
 
-use memory::Table;
-use script::{Said, names};
-
-const BYTE: u64 = script::limits::MOST_BYTE;
-
-// The letters of MMDD and of YYMMDD.
-const EVERY: usize = 4;
-
-const DATED: usize = 6;
-
-// ---- slots
-
-fn is_unused(table: &Table, i: usize) -> bool {
-    if tariff::SLOTS <= i {
-        return false;
-    }
-    table[tariff::SLOT * i] == tariff::UNUSED
+// The first slot that is unused.
+fn unused(table: &Table) -> Option<usize> {
+    table.chunks_exact(SLOT).position(|slot| slot
+        .first()
+        .is_some_and(|kind| *kind == Kind::Unused as u8))
 }
 
-// The first slot that is unused, or SLOTS where none is.
-fn free(table: &Table) -> usize
-    ensures { result ≤ slot_count }
-{
-    let mut found = tariff::SLOTS;
-    let mut i = tariff::SLOTS;
-    while 0 < i {
-        i -= 1;
-        if is_unused(table, i) {
-            found = i;
-        }
+fn write(table: &mut Table, i: usize, bytes: Slot) -> Option<u64> {
+    if SLOTS <= i {
+        return None;
     }
-    found
-}
-
-fn narrow(b: u64) -> u8 {
-    (b % 256) as u8
-}
-
-// Five bytes into a slot.
-fn write(table: &mut Table, i: usize, k: u64, t: u64, x: u64, y: u64, z: u64) -> u64 {
-    if tariff::SLOTS <= i {
-        return script::NONE;
-    }
-    let at = tariff::SLOT * i;
-    table[at] = narrow(k);
-    table[at + 1] = narrow(t);
-    table[at + 2] = narrow(x);
-    table[at + 3] = narrow(y);
-    table[at + 4] = narrow(z);
-    0
+    table[SLOT * i..SLOT * i + SLOT].copy_from_slice(&bytes);
+    Some(DONE)
 }
 
 // An entry into the first unused slot; which slot that is.
-fn add(table: &mut Table, k: u8, t: u64, x: u64, y: u64, z: u64) -> u64 {
-    let i = free(table);
-    if write(table, i, k as u64, t, x, y, z) == script::NONE {
-        return script::NONE;
-    }
-    i as u64
+fn add(table: &mut Table, bytes: Slot) -> Option<u64> {
+    let i = unused(table)?;
+    write(table, i, bytes)?;
+    Some(i as u64)
 }
 
-// ---- lines
-
-// `except T MMDD` or `except T YYMMDD`.
-fn exception(said: Said, digits: usize, table: &mut Table) -> u64 {
-    let d = said.b;
-    match digits {
-        EVERY => add(
-            table,
-            tariff::EXCEPTION,
-            said.a,
-            tariff::EVERY_YEAR as u64,
-            d / 100,
-            d % 100,
-        ),
-        DATED => add(
-            table,
-            tariff::EXCEPTION,
-            said.a,
-            d / 10000,
-            d / 100 % 100,
-            d % 100,
-        ),
-        _ => script::NONE,
+fn swap(table: &mut Table, i: usize, j: usize) -> Option<u64> {
+    if SLOTS <= i || SLOTS <= j {
+        return None;
     }
+    for k in 0..SLOT {
+        table.swap(SLOT * i + k, SLOT * j + k);
+    }
+    Some(DONE)
 }
 
-// `slot I K T X Y Z`.
-fn by_hand(said: Said, y: u64, z: u64, table: &mut Table) -> u64 {
-    if (BYTE < said.d) | (BYTE < y) | (BYTE < z) {
-        return script::NONE;
-    }
-    write(table, said.a as usize, said.b, said.c, said.d, y, z)
-}
-
-// Byte k of slots i and j.
-fn swap_byte(table: &mut Table, i: usize, j: usize, k: usize) {
-    if tariff::SLOTS <= i {
-        return;
-    }
-    if tariff::SLOTS <= j {
-        return;
-    }
-    if tariff::SLOT <= k {
-        return;
-    }
-    let b = table[tariff::SLOT * i + k];
-    table[tariff::SLOT * i + k] = table[tariff::SLOT * j + k];
-    table[tariff::SLOT * j + k] = b;
-}
-
-fn swap(table: &mut Table, i: u64, j: u64) -> u64 {
-    let mut k: usize = 0;
-    while k < tariff::SLOT {
-        swap_byte(table, i as usize, j as usize, k);
-        k += 1;
-    }
-    0
-}
-
-fn blank(table: &mut Table) -> u64 {
-    memory::clear(table, 0, tariff::TABLE);
-    0
-}
-
-// What a line answers that changes the table.
-pub fn answered(said: Said, line: &[u8], table: &mut Table) -> u64 {
-    let name = said.name;
-    match name {
-        names::AT => add(
-            table,
-            tariff::TIME,
-            said.a,
-            said.b / 100,
-            said.b % 100,
-            said.c,
-        ),
-        names::EXCEPT => exception(said, script::word(line, 2).len(), table),
-        names::WEEKDAYS => add(table, tariff::WEEKDAYS, said.a, said.b, said.c, 0),
-        names::DEFAULT => add(table, tariff::DEFAULT, said.a, 0, 0, 0),
-        names::SLOT => by_hand(
-            said,
-            script::number_at(line, 5),
-            script::number_at(line, 6),
-            table,
-        ),
-        names::SWAP => swap(table, said.a, said.b),
-        _ => blank(table),
+// What a command answers, as one number.
+pub fn answered(command: EditorCommand, table: &mut Table) -> Option<u64> {
+    match command {
+        EditorCommand::Blank => {
+            table.fill(0);
+            Some(DONE)
+        }
+        EditorCommand::Add(bytes) => add(table, bytes),
+        EditorCommand::Write { slot, bytes } => write(table, slot, bytes),
+        EditorCommand::Swap(i, j) => swap(table, i, j),
     }
 }

@@ -2,7 +2,7 @@
 -- three days after it; of the three blocks the second is lost and the first comes late. Each number is that of docs/RULES.md.
 use Rattle.std.specs.Prelude.{ℕ, ◌*◌, ◌≡◌, List, [], ◌∷◌, map, length, get_or, replicate}
 use Rattle.quantity.specs.Units.{watt_hours, unit_of}
-use Rattle.block.specs.declared.Answer.{Answer}
+use Rattle.answers.specs.Answer.{Answer}
 use Rattle.days.specs.Day.{start_of, flags_of, half_at, count}
 use Rattle.days.specs.Energy.{advances}
 use Rattle.ledger.specs.Asked.{missing_of}

@@ -10,3 +10,4 @@ pub mod Bits
 pub mod Rows
 pub mod Lists
 pub mod Round
+pub mod Exits

@@ -1,251 +1,112 @@
-// A script's outstation, its store and the room of its switching table: how they are lent, a set-up, the events, and what is changed by hand, there and in the given fields. Every function takes any
-// line and any memory, and answers one number, as the library for C does, NONE for a line that is not understood.
+// A script's outstation, its store and the room of its switching table: how they are lent, a set-up, the events, and what is changed by hand, there and in the given
+// fields. Every function takes any memory, and answers one number, as the library for C does; there is no answer where what is to be changed is not there.
 #![tactic(auto)]
 
-mod places;
-
-use memory::{Lent, Marks, Row, Starts, Table, Values};
+use commands::{MeterCommand, SetUp};
+use memory::{DONE, Lengths, Lent, Memory, Outstation, Table, first};
 use outstation::Happening;
 use recorder::Event;
-use registers::Shift;
-use script::{Said, names};
 
 // ---- how the store is lent
 
 // `lend`: as the recorder's class has it, and the whole room of the table.
-fn lend_again(row: &mut Row) -> u64 {
-    let class = memory::number(row, rows::CLASS);
-    memory::put(row, memory::TABLE_STANDS, 0);
-    memory::put(row, memory::LENT_CLASS, class);
-    memory::put(row, memory::STANDS, 0)
+fn lend_again(outstation: &mut Outstation) -> u64 {
+    outstation.lent = Lent::As(outstation.class());
+    outstation.table_lent = tariff::TABLE;
+    DONE
 }
 
 // `lend V S M`.
-fn lend_these(values: u64, starts: u64, marks: u64, row: &mut Row) -> u64 {
-    memory::put(row, memory::LENT_VALUES, values);
-    memory::put(row, memory::LENT_STARTS, starts);
-    memory::put(row, memory::LENT_MARKS, marks);
-    memory::put(row, memory::STANDS, 1)
-}
-
-fn lend(said: Said, row: &mut Row) -> u64 {
-    let n = said.n;
-    match n {
-        0 => lend_again(row),
-        3 => lend_these(said.a, said.b, said.c, row),
-        _ => script::NONE,
-    }
+fn lend(lengths: Lengths, outstation: &mut Outstation) -> u64 {
+    outstation.lent = Lent::In(lengths);
+    DONE
 }
 
 // `lend table N`.
-fn lend_table(n: u64, row: &mut Row) -> u64 {
-    memory::put(row, memory::LENT_TABLE, n);
-    memory::put(row, memory::TABLE_STANDS, 1)
+fn lend_table(n: usize, outstation: &mut Outstation) -> u64 {
+    outstation.table_lent = n;
+    DONE
 }
 
 // ---- a set-up or an event, with the store as it is lent
 
-fn keep_letters(id: &[u8], row: &mut [u64]) {
-    parts::from8(memory::part64(row, rows::LETTER, format::IDENTIFIER), id);
-}
-
 // What a recorder is set up with lies in its row, and the store is lent as its class has it, unless a `lend V S M` stands.
-fn keep_start(said: Said, id: &[u8], row: &mut Row) -> u64 {
-    keep_letters(id, row);
-    memory::put(row, memory::LENT_CLASS, said.a);
-    memory::put(row, rows::CLASS, said.a);
-    memory::put(row, station::SINGLE, said.f);
-    memory::put(row, rows::WEIGHT, said.b);
-    memory::put(row, rows::TIME, said.c);
-    memory::put(row, rows::TOTAL, said.d);
-    memory::put(row, rows::LAST, said.e)
+fn keep_start(start: SetUp<'_>, outstation: &mut Outstation) {
+    let row = &mut outstation.row;
+    parts::from8(&mut row[rows::LETTER..rows::CLASS], start.identifier);
+    row[rows::CLASS] = start.class;
+    row[rows::WEIGHT] = u64::from(start.weight);
+    row[rows::TIME] = start.time;
+    row[rows::TOTAL] = start.total;
+    row[rows::LAST] = u64::from(start.counter);
+    row[station::SINGLE] = u64::from(start.single);
+    if let Lent::As(_) = outstation.lent {
+        outstation.lent = Lent::As(outstation.class());
+    }
 }
 
-fn set_up(
-    lent: Lent,
-    row: &mut [u64],
-    values: &mut [u16],
-    starts: &mut [u32],
-    marks: &mut [u64],
-    table: &mut [u8],
-) -> u64 {
+fn set_up(start: SetUp<'_>, outstation: &mut Outstation) -> u64 {
+    keep_start(start, outstation);
+    let lent = outstation.lent.lengths();
     station::set_up(
-        row,
-        memory::first16(values, lent.values),
-        memory::first32(starts, lent.starts),
-        memory::part64(marks, 0, lent.marks),
-        memory::part8(table, 0, lent.table),
+        &mut outstation.row,
+        first(&mut outstation.values, lent.values),
+        first(&mut outstation.starts, lent.starts),
+        first(&mut outstation.marks, lent.marks),
+        first(&mut outstation.table, outstation.table_lent),
     )
 }
 
-fn begin(
-    said: Said,
-    line: &[u8],
-    row: &mut Row,
-    values: &mut Values,
-    starts: &mut Starts,
-    marks: &mut Marks,
-    table: &mut Table,
-) -> u64 {
-    keep_start(said, script::word(line, 1), row);
-    set_up(memory::lent_store(row), row, values, starts, marks, table)
-}
-
-// PPP as the number of its bytes.
-fn ppp(n: u64) -> Event {
-    Event::Ppp(
-        (n / 65536 % 256) as u8,
-        (n / 256 % 256) as u8,
-        (n % 256) as u8,
-    )
-}
-
-// Seconds ahead, or back where the second number says so.
-fn shift(n: u32, back: u64) -> Shift {
-    if back == 0 {
-        Shift::Ahead(n)
-    } else {
-        Shift::Back(n)
-    }
-}
-
-fn event(name: u64, n: u64, back: u64) -> Event {
-    match name {
-        names::COUNT => Event::Count(memory::narrow(n)),
-        names::CLOCK => Event::Clock(n),
-        names::OFF => Event::Off,
-        names::ON => Event::On(n),
-        names::ACCESS => Event::Access,
-        names::METER => Event::Meter(memory::narrow(n)),
-        names::RESET => Event::Reset,
-        names::RATE => Event::Rate(memory::narrow(n)),
-        names::PPP => ppp(n),
-        names::ADJUST => Event::Adjust(shift(memory::narrow(n), back)),
-        _ => Event::Reverse,
-    }
-}
-
-fn happens(
-    what: Happening,
-    offered: &[u8],
-    lent: Lent,
-    row: &mut [u64],
-    values: &mut [u16],
-    starts: &mut [u32],
-    marks: &mut [u64],
-    table: &mut [u8],
-) -> u64 {
+fn happens(what: Happening, offered: &[u8], outstation: &mut Outstation) -> u64 {
+    let lent = outstation.lent.lengths();
     station::happens(
-        row,
+        &mut outstation.row,
         what,
         offered,
-        memory::first16(values, lent.values),
-        memory::first32(starts, lent.starts),
-        memory::part64(marks, 0, lent.marks),
-        memory::part8(table, 0, lent.table),
+        first(&mut outstation.values, lent.values),
+        first(&mut outstation.starts, lent.starts),
+        first(&mut outstation.marks, lent.marks),
+        first(&mut outstation.table, outstation.table_lent),
     )
 }
 
-fn happening(name: u64, n: u64, back: u64) -> Happening {
-    match name {
-        names::LOAD => Happening::Load,
-        names::SINGLE => Happening::Single,
-        _ => Happening::Of(event(name, n, back)),
-    }
+fn event(event: Event, outstation: &mut Outstation) -> u64 {
+    happens(Happening::Of(event), &[], outstation)
 }
 
-// How much of the editor's table is offered: all of it, or so many bytes.
-fn offered_length(said: Said) -> usize {
-    if said.n == 0 {
-        return tariff::TABLE;
-    }
-    said.a as usize
+// So many bytes of an editor's table are offered.
+fn load(n: usize, editor: &Table, outstation: &mut Outstation) -> u64 {
+    happens(Happening::Load, parts::part(editor, 0, n), outstation)
 }
 
-fn act(
-    said: Said,
-    row: &mut Row,
-    values: &mut Values,
-    starts: &mut Starts,
-    marks: &mut Marks,
-    table: &mut Table,
-    editor: &Table,
-) -> u64 {
-    let lent = memory::lent_store(row);
-    happens(
-        happening(said.name, said.a, said.b),
-        parts::part8(editor, 0, offered_length(said)),
-        lent,
-        row,
-        values,
-        starts,
-        marks,
-        table,
-    )
-}
-
-// ---- `poke` and `given`
-
-// Whether a place lies in the store as it is lent, or before the store.
-fn is_lent(at: usize, lent: Lent) -> bool {
-    if at < memory::VALUE {
-        return true;
-    }
-    if at < memory::START {
-        return at - memory::VALUE < lent.values;
-    }
-    if at < memory::MARK {
-        return at - memory::START < lent.starts;
-    }
-    at - memory::MARK < lent.marks
-}
-
-// The place of what is changed, where it is there and takes the number.
-fn changed(said: Said, row: &Row) -> usize {
-    let place = places::named(said);
-    if place.most < places::last(said) {
-        return memory::NOWHERE;
-    }
-    if (said.name == names::POKE) & !is_lent(place.at, memory::lent_store(row)) {
-        return memory::NOWHERE;
-    }
-    place.at
-}
-
-fn change(
-    said: Said,
-    row: &mut Row,
-    values: &mut Values,
-    starts: &mut Starts,
-    marks: &mut Marks,
-) -> u64 {
-    let at = changed(said, row);
-    memory::put_at(at, places::last(said), row, values, starts, marks)
-}
+// ---- a command
 
 // Byte I of the room, as it is lent.
-fn poke_table(i: u64, b: u64, lent: usize, table: &mut [u8]) -> u64 {
-    memory::put_byte(memory::part8(table, 0, lent), i as usize, b)
+fn poke_table(at: usize, byte: u8, outstation: &mut Outstation) -> Option<u64> {
+    let lent = first(&mut outstation.table, outstation.table_lent);
+    memory::put(lent, at, byte)?;
+    Some(DONE)
 }
 
-// What a line answers that changes outstation, store, the table's room or given fields.
-pub fn answered(
-    said: Said,
-    line: &[u8],
-    row: &mut Row,
-    values: &mut Values,
-    starts: &mut Starts,
-    marks: &mut Marks,
-    table: &mut Table,
-    editor: &Table,
-) -> u64 {
-    let name = said.name;
-    match name {
-        names::LEND => lend(said, row),
-        names::LEND_TABLE => lend_table(said.b, row),
-        names::SETUP => begin(said, line, row, values, starts, marks, table),
-        names::POKE_TABLE => poke_table(said.b, said.c, memory::lent_table(row), table),
-        names::POKE | names::GIVEN => change(said, row, values, starts, marks),
-        _ => act(said, row, values, starts, marks, table, editor),
+// What a command answers that changes outstation, store, the table's room or given fields.
+pub fn answered(command: MeterCommand<'_>, memory: &mut Memory) -> Option<u64> {
+    let outstation = &mut memory.outstation;
+    match command {
+        MeterCommand::SetUp(start) => Some(set_up(start, outstation)),
+        MeterCommand::Happen(what) => Some(event(what, outstation)),
+        MeterCommand::Load(n) => Some(load(n, &memory.editor, outstation)),
+        MeterCommand::Single => Some(happens(Happening::Single, &[], outstation)),
+        MeterCommand::LendAgain => Some(lend_again(outstation)),
+        MeterCommand::Lend(lengths) => Some(lend(lengths, outstation)),
+        MeterCommand::LendTable(n) => Some(lend_table(n, outstation)),
+        MeterCommand::Poke(change) => {
+            outstation.change(change)?;
+            Some(DONE)
+        }
+        MeterCommand::PokeTable { at, byte } => poke_table(at, byte, outstation),
+        MeterCommand::Give(change) => {
+            memory.given.change(change)?;
+            Some(DONE)
+        }
     }
 }

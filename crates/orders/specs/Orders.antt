@@ -2,7 +2,7 @@
 -- `recorder` has that of set-up and events (Cases). Each row's inputs are refused by two checks or more, so that it shows which of them comes first, or by one alone, or is done.
 use Rattle.std.specs.Prelude.{ℕ, ◌/◌, ◌%◌, List, [], ◌∷◌, ◌++◌, replicate, set, take}
 use Rattle.format.specs.Numbers.{binary, num_at}
-use Rattle.block.specs.declared.Answer.{Answer}
+use Rattle.answers.specs.Answer.{Answer}
 use Rattle.block.specs.Answers.{answer_of}
 use Rattle.block.specs.Layout.{render_block}
 use Rattle.block.specs.Parse.{parse}

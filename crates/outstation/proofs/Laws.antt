@@ -1,22 +1,22 @@
 -- What happens to an outstation, in the form that the proofs of the code look for.
 -- Assumes nothing.
-use Prim.Native.Nat.{ℕ, ◌+◌, ◌<◌, ◌≤◌}
+use Prim.Native.Nat.{ℕ, ◌<◌, ◌≤◌}
 use mathlib.Core.Path.{◌≡◌, refl, sym, ap, ◌∙◌}
 use mathlib.Core.Bool.{Bool, true, false, not, cond, ◌&&◌, false≢true}
-use mathlib.Core.List.{List, ◌++◌, append-nil}
-use lib.Dec.{eqb, ltb, leb}
+use mathlib.Core.List.{List}
+use lib.Dec.{eqb, ltb}
 use lib.ListN.{length}
-use lib.Seq.{sets, sets-eq, drop-length}
-use lib.ListN.{drop}
 use native.Mathlib.Omega.{arith}
-use borrow.Author.Tests.{eq-eqb, ne_eqb, eqb-true, eqb-false, lt-ltb, le-ltb, le-leb, lt-leb, ltb-true, ltb-false, not-true, not-false}
+use borrow.Author.Tests.{eq-eqb, ne_eqb, eqb-false, lt-ltb, le-ltb, not-true, not-false}
+use Rattle.std.specs.Prelude.{Result, Ok, Err}
+use Rattle.answers.specs.declared.Refusal.{Refusal}
+use Rattle.answers.specs.declared.Refusal.TheVariants.{Power, Time, Units, Length, Damaged, Range, Short, NoBlock, Field, Inconsistent, OtherMeter, Differs, Ended, Clash, Loaded}
+use Rattle.answers.specs.Answer.{number_of, carried_of}
 use Rattle.laws.specs.Checks.{first_failing}
 use Rattle.laws.proofs.Bools.{no_left, no_right}
 use Rattle.laws.proofs.Split.{by_test}
-use Rattle.store.specs.declared.Class.{Class}
-use Rattle.store.specs.Class.{days_of, right_lengths}
+use Rattle.store.specs.Class.{right_lengths}
 use Rattle.recorder.specs.declared.Recorder.{Recorder}
-use Rattle.recorder.specs.declared.Stepped.{Stepped}
 use Rattle.recorder.specs.declared.Event.{Event}
 use Rattle.recorder.specs.declared.Event.TheVariants.{Count, Clock, Off, On, Access, Meter, Reset, Rate, Reverse, Ppp, Adjust}
 use Rattle.recorder.specs.Recorder.{Mem, mem, with, cap_of}
@@ -24,42 +24,16 @@ use Rattle.recorder.specs.Effect.{rate_is, after as effect}
 use Rattle.recorder.specs.Range.{in_range}
 use Rattle.recorder.specs.Answer.{no_class, wrong_power, units_after, event_answer, answer_with, answer_of as step_answer}
 use Rattle.recorder.specs.Step.{Done as Stepping, done as stepping, step}
-use Rattle.recorder.proofs.Answers.{wrong_length, out_of_range_lem, event_judged}
-use Rattle.tariff.specs.Table.{table_size}
-use Rattle.tariff.specs.Judge.{names_above, judged}
-use Rattle.tariff.specs.Rate.{rate_at}
+use Rattle.recorder.proofs.Answers.{number_some, wrong_length, out_of_range_lem, event_judged}
+use Rattle.tariff.specs.Table.{table_size, slots_of}
+use Rattle.tariff.specs.Judge.{clash_in, names_above, sound, judged}
 use Rattle.tariff.proofs.Order.{accepted as passed}
 use Rattle.outstation.specs.declared.Outstation.{Outstation}
 use Rattle.outstation.specs.declared.Phase.{Phase}
 use Rattle.outstation.specs.declared.Phase.TheVariants.{Single}
-use Rattle.outstation.specs.declared.Answered.{Answered}
-use Rattle.outstation.specs.Outstation.{most_rate, Site, site, with_mem, Happening, of, load, single, is_rate, tells_time, too_high, asked, own_checks, misfit, answer_of, may_choose, rate_then, rate_kept, switched, after, Done, done, happens}
-use Rattle.outstation.specs.declared.Decided.{Decided}
-use Rattle.outstation.specs.Parts.{Roomy, answered, unchosen, of_event, after_of}
+use Rattle.outstation.specs.Outstation.{most_rate, Site, site, with_mem, Happening, of, load, single, is_rate, tells_time, too_high, asked, own_checks, misfit, answer_of, rate_then, rate_kept, switched, after, Done, done, happens}
+use Rattle.outstation.specs.Parts.{Roomy, rate_after}
 use Rattle.outstation.proofs.Steps.{rate_same}
-
--- ---- the rate chosen
-
-pub may_choose_lem : (p : Phase) (n m : ℕ) → m ≡ most_rate p → (leb 1 n && leb n m) ≡ may_choose p n
-may_choose_lem p n m e = rw e
-
-module _ (p : Phase) (b : List ℕ) (t r n : ℕ) (k : Bool) (e : n ≡ rate_at b t) (q : k ≡ may_choose p n) where
-  pub then_kept : not k ≡ true → r ≡ rate_then true p b t r
-  unfolding rate_then
-  then_kept h = let z : may_choose p n ≡ false = sym q ∙ not-true k h in rw (← e, z)
-
-  pub then_set : not k ≡ false → n ≡ rate_then true p b t r
-  unfolding rate_then
-  then_set h = let z : may_choose p n ≡ true = sym q ∙ not-false k h in rw (← e, z)
-
-module _ (n : ℕ) where
-  pub kept_low : n ≤ most_rate Single → n ≡ rate_kept n
-  unfolding rate_kept
-  kept_low h = rw (le-leb n (most_rate Single) h)
-
-  pub kept_high : most_rate Single < n → 1 ≡ rate_kept n
-  unfolding rate_kept
-  kept_high h = rw (lt-leb n (most_rate Single) h)
 
 -- ---- what a step leaves
 
@@ -114,17 +88,41 @@ real_class r k p ne = ne_eqb (cap_of r) 0 (λ z. ne (p ∙ z))
 pub roomy : (o : Outstation) (b : List ℕ) (k n : ℕ) → k ≡ cap_of o.recorder → (k ≡ 0 → ⊥) → length b ≡ table_size → n ≡ most_rate o.phase → o.recorder.energy.rate ≤ n → Roomy o b
 roomy o b k n p ne l q h = record { class = real_class o.recorder k p ne; long = l; low = le-ltb (most_rate o.phase) o.recorder.energy.rate (rw (← q) h) }
 
-module _ (class : Class) (v s m : ℕ) (f : Bool) (q : f ≡ right_lengths (days_of class) v s m) where
-  pub unchosen_fits : f ≡ true → 5 ≡ unchosen (days_of class) v s m
-  unfolding unchosen
-  unchosen_fits h = rw (← q, h)
+pub loaded_long : (f b : List ℕ) → 0 ≡ judged f → length b ≡ table_size → length b ≡ length f
+loaded_long f b z l = l ∙ sym (passed f (sym z)).long
 
-  pub unchosen_misfits : f ≡ false → 4 ≡ unchosen (days_of class) v s m
-  unfolding unchosen
-  unchosen_misfits h = rw (← q, h)
+-- 7 and 9 alone carry something, and a table is refused with 6 or 14
+nothing_carried : (x : Refusal) → (number_of x ≡ 7 → ⊥) → (number_of x ≡ 9 → ⊥) → carried_of x ≡ 0
+nothing_carried Power a b = refl
+nothing_carried Time a b = refl
+nothing_carried Units a b = refl
+nothing_carried Length a b = refl
+nothing_carried Damaged a b = refl
+nothing_carried Range a b = refl
+nothing_carried (Short bytes) a b = absurd (a refl)
+nothing_carried NoBlock a b = refl
+nothing_carried (Field at) a b = absurd (b refl)
+nothing_carried Inconsistent a b = refl
+nothing_carried OtherMeter a b = refl
+nothing_carried Differs a b = refl
+nothing_carried Ended a b = refl
+nothing_carried Clash a b = refl
+nothing_carried Loaded a b = refl
 
-pub loaded_long : (f : List ℕ) (j : ℕ) → j ≡ judged f → j ≡ 0 → length f ≡ table_size
-loaded_long f j p z = (passed f (sym p ∙ z)).long
+judged_other : (f : List ℕ) (n : ℕ) → (6 ≡ n → ⊥) → (14 ≡ n → ⊥) → (0 ≡ n → ⊥) → judged f ≡ n → ⊥
+unfolding judged
+judged_other f n six fourteen done e =
+    by_test (not (eqb (length f) table_size))
+    (λ t. six (rw t at e))
+    (λ t. by_test (not (sound (slots_of f)))
+    (λ u. six (rw (t, u) at e))
+    (λ u. by_test (clash_in (slots_of f)) (λ w. fourteen (rw (t, u, w) at e)) (λ w. done (rw (t, u, w) at e))))
+
+judged_bare : (f : List ℕ) (x : Refusal) → number_of x ≡ judged f → carried_of x ≡ 0
+judged_bare f x e =
+    nothing_carried x
+    (λ p. judged_other f 7 (λ z. absurd (omega arith)) (λ z. absurd (omega arith)) (λ z. absurd (omega arith)) (sym e ∙ p))
+    (λ p. judged_other f 9 (λ z. absurd (omega arith)) (λ z. absurd (omega arith)) (λ z. absurd (omega arith)) (sym e ∙ p))
 
 -- what a load asks of the recorder
 module _ (r : Recorder) (v s m : ℕ) (c : no_class r ≡ false) (f : Bool) (q : f ≡ right_lengths (cap_of r) v s m) where
@@ -156,70 +154,59 @@ module _ (x : Site) (h : Happening) where
   unfolding happens
   happens_done p = rw p
 
-module _ (o : Outstation) (v s m b : List ℕ) (h : Happening) (d : Answered) where
+module _ (o : Outstation) (v s m b : List ℕ) (h : Happening) where
   abbrev x : Site
   x = site o v s m b
 
-  five : (k : ℕ) → k ≡ cap_of o.recorder → k ≡ 0 → answer_of x h ≡ 5
-  unfolding answer_of
-  five k p z = rw (eq-eqb (cap_of o.recorder) 0 (sym p ∙ z))
+  -- refused with a number of its own, and nothing carried
+  refused_with : (e : Refusal) → carried_of e ≡ 0 → answer_of x h ≡ number_of e → done (Err e) o v s m b ≡ happens x h
+  refused_with e c p = rw c (sym (happens_refused x h (number_of e) p (number_some e)))
 
-  four : (k : ℕ) → k ≡ cap_of o.recorder → (k ≡ 0 → ⊥) → (length b ≡ table_size → ⊥) → answer_of x h ≡ 4
-  unfolding answer_of
-  four k p ne l = rw (real_class o.recorder k p ne, ne_eqb (length b) table_size l)
+  module _ (k : ℕ) (p : k ≡ cap_of o.recorder) where
+    pub class_refused : k ≡ 0 → done (Err Damaged) o v s m b ≡ happens x h
+    unfolding answer_of
+    class_refused z = refused_with Damaged refl (rw (eq-eqb (cap_of o.recorder) 0 (sym p ∙ z)))
 
-  pub class_refused : d ≡ answered o 5 → (k : ℕ) → k ≡ cap_of o.recorder → k ≡ 0 → done d v s m b ≡ happens x h
-  class_refused e k p z = ap {B = Done} (λ (w : Answered). done w v s m b) e ∙ sym (happens_refused x h 5 (five k p z) (λ n. absurd (false≢true (eq-eqb 5 0 n))))
+    module _ (some : k ≡ 0 → ⊥) where
+      pub length_refused : (length b ≡ table_size → ⊥) → done (Err Length) o v s m b ≡ happens x h
+      unfolding answer_of
+      length_refused l = refused_with Length refl (rw (real_class o.recorder k p some, ne_eqb (length b) table_size l))
 
-  pub length_refused : d ≡ answered o 4 → (k : ℕ) → k ≡ cap_of o.recorder → (k ≡ 0 → ⊥) → (length b ≡ table_size → ⊥) → done d v s m b ≡ happens x h
-  length_refused e k p ne l = ap {B = Done} (λ (w : Answered). done w v s m b) e ∙ sym (happens_refused x h 4 (four k p ne l) (λ n. absurd (false≢true (eq-eqb 4 0 n))))
+      module _ (l : length b ≡ table_size) (n : ℕ) (q : n ≡ most_rate o.phase) (high : n < o.recorder.energy.rate) (f : Bool) (e : f ≡ right_lengths (cap_of o.recorder) (length v) (length s) (length m)) where
+        pub rate_refused : f ≡ true → done (Err Damaged) o v s m b ≡ happens x h
+        unfolding answer_of
+        rate_refused t =
+            refused_with Damaged refl
+            (rw (real_class o.recorder k p some, eq-eqb (length b) table_size l, lt-ltb (most_rate o.phase) o.recorder.energy.rate (rw (← q) high), sym e ∙ t))
 
-  unchosen_some : (c v₁ s₁ m₁ : ℕ) → unchosen c v₁ s₁ m₁ ≡ 0 → ⊥
-  unfolding unchosen
-  unchosen_some c v₁ s₁ m₁ z = by_test (right_lengths c v₁ s₁ m₁) (λ t. absurd (false≢true (eq-eqb 5 0 (rw t at z)))) (λ t. absurd (false≢true (eq-eqb 4 0 (rw t at z))))
+        pub misfit_refused : f ≡ false → done (Err Length) o v s m b ≡ happens x h
+        unfolding answer_of
+        misfit_refused t = refused_with Length refl (rw (real_class o.recorder k p some, eq-eqb (length b) table_size l, sym e ∙ t))
 
-  pub rate_refused : (a : ℕ) → a ≡ unchosen (days_of o.recorder.identity.class) (length v) (length s) (length m) → d ≡ answered o a
-      → (k : ℕ) → k ≡ cap_of o.recorder → (k ≡ 0 → ⊥) → length b ≡ table_size → (n : ℕ) → n ≡ most_rate o.phase → n < o.recorder.energy.rate → done d v s m b ≡ happens x h
-  unfolding answer_of unchosen
-  rate_refused a w e k p ne l n q high =
-      let judged : answer_of x h ≡ a =
-      rw (real_class o.recorder k p ne, eq-eqb (length b) table_size l, lt-ltb (most_rate o.phase) o.recorder.energy.rate (rw (← q) high), w)
-      (by_test (right_lengths (cap_of o.recorder) (length v) (length s) (length m)) (λ t. rw t) (λ t. rw t)) in
-      ap {B = Done} (λ (j : Answered). done j v s m b) e ∙ sym (happens_refused x h a judged (λ z. unchosen_some (days_of o.recorder.identity.class) (length v) (length s) (length m) (sym w ∙ z)))
+-- ---- the rate after an event that the recorder took
 
--- ---- what is decided, by value
+module _ (loaded : Bool) (p : Phase) (rate time : ℕ) (e : Event) (b : List ℕ) where
+  after_high : ltb (most_rate p) rate ≡ true → rate_after loaded p rate time e b ≡ Err Range
+  unfolding rate_after
+  after_high h = rw h
 
-module _ (loaded : Bool) (p : Phase) (d : Decided) (rate time : ℕ) (e : Event) (b : List ℕ) where
-  pub event_refused : (d.answer ≡ 0 → ⊥) → d ≡ of_event loaded p d rate time e b
-  unfolding of_event
-  event_refused ne = rw (ne_eqb d.answer 0 ne)
+  module _ (l : ltb (most_rate p) rate ≡ false) where
+    after_free : loaded ≡ false → rate_after loaded p rate time e b ≡ Ok rate
+    unfolding rate_after
+    after_free k = rw (l, k)
 
-  module _ (z : d.answer ≡ 0) (n : ℕ) (r : n ≡ most_rate p) where
-    pub event_high : n < d.rate → ◌≡◌ {A = Decided} (record { answer = 6; rate = rate }) (of_event loaded p d rate time e b)
-    unfolding of_event
-    event_high h = rw (eq-eqb d.answer 0 z, lt-ltb (most_rate p) d.rate (rw (← r) h))
+    module _ (k : loaded ≡ true) where
+      after_rate : is_rate e ≡ true → rate_after loaded p rate time e b ≡ Err Loaded
+      unfolding rate_after
+      after_rate g = rw (l, k, g)
 
-    module _ (h : d.rate ≤ n) where
-      low : ltb (most_rate p) d.rate ≡ false
-      low = le-ltb (most_rate p) d.rate (rw (← r) h)
+      after_timed : is_rate e ≡ false → tells_time e ≡ true → rate_after loaded p rate time e b ≡ Ok (rate_then true p b time rate)
+      unfolding rate_after
+      after_timed g t = rw (l, k, g, t)
 
-      pub event_free : not loaded ≡ true → d ≡ of_event loaded p d rate time e b
-      unfolding of_event
-      event_free f = rw (eq-eqb d.answer 0 z, low, f)
-
-      module _ (f : not loaded ≡ false) (k : Bool) (q : k ≡ is_rate e) where
-        pub event_rate : k ≡ true → ◌≡◌ {A = Decided} (record { answer = 15; rate = rate }) (of_event loaded p d rate time e b)
-        unfolding of_event
-        event_rate g = rw (eq-eqb d.answer 0 z, low, f, sym q ∙ g)
-
-        module _ (g : k ≡ false) (t : Bool) (w : t ≡ tells_time e) where
-          pub event_timed : t ≡ true → (m : ℕ) → m ≡ rate_then true p b time d.rate → ◌≡◌ {A = Decided} (record { answer = 0; rate = m }) (of_event loaded p d rate time e b)
-          unfolding of_event
-          event_timed s m i = rw (eq-eqb d.answer 0 z, low, f, sym q ∙ g, sym w ∙ s, i)
-
-          pub event_plain : t ≡ false → d ≡ of_event loaded p d rate time e b
-          unfolding of_event
-          event_plain s = rw (eq-eqb d.answer 0 z, low, f, sym q ∙ g, sym w ∙ s)
+      after_plain : is_rate e ≡ false → tells_time e ≡ false → rate_after loaded p rate time e b ≡ Ok rate
+      unfolding rate_after
+      after_plain g t = rw (l, k, g, t)
 
 -- ---- what happens
 
@@ -259,145 +246,132 @@ module _ (o : Outstation) (v s m b : List ℕ) (ok : Roomy o b) where
   refusal : (h : Happening) (n : ℕ) (z : Mem) → answer_of x₀ h ≡ n → (n ≡ 0 → ⊥) → z ≡ y → outcome n z o.loaded o.phase b ≡ happens x₀ h
   refusal h n z e ne same = ap {B = Done} (λ (k : Mem). outcome n k o.loaded o.phase b) same ∙ sym (happens_refused x₀ h n e ne)
 
-  -- ---- an event, at a state that the step left
+  -- ---- an event that the recorder took, at the state that its step left
 
-  module _ (e : Event) (a : ℕ) (z : Mem) (p : a ≡ (step y e).answer) (q : z ≡ (step y e).after) where
-    abbrev d : Decided
-    d = record { answer = a; rate = z.recorder.energy.rate }
+  module _ (e : Event) (z : Mem) (n : 0 ≡ (step y e).answer) (q : z ≡ (step y e).after) where
+    -- what is left at a rate, or with a refusal and the rate put back
+    abbrev left : Result ℕ Refusal → Done
+    left (Ok c) = outcome 0 (with z (rate_is c z.recorder)) o.loaded o.phase b
+    left (Err x) = record { answer = number_of x; carried = carried_of x; after = record { mem = with z (rate_is old z.recorder); loaded = o.loaded; phase = o.phase; table = b } }
 
-    abbrev left : Decided → Done
-    left c = outcome c.answer (with z (rate_is c.rate z.recorder)) o.loaded o.phase b
+    abbrev rate : ℕ
+    rate = z.recorder.energy.rate
 
     abbrev time : ℕ
     time = z.recorder.clock.time
 
     abbrev high : Bool
-    high = ltb (most_rate o.phase) z.recorder.energy.rate
+    high = ltb (most_rate o.phase) rate
 
-    -- the rate put back after a Rate
-    back : a ≡ 0 → is_rate e ≡ true → with z (rate_is old z.recorder) ≡ y
-    back n f = ap (λ (k : Mem). with k (rate_is old k.recorder)) q ∙ put_back y e f (sym p ∙ n)
+    back : is_rate e ≡ true → with z (rate_is old z.recorder) ≡ y
+    back f = ap (λ (k : Mem). with k (rate_is old k.recorder)) q ∙ put_back y e f (sym n)
 
-    module _ (n : a ≡ 0) where
-      left_high : ltb (most_rate o.phase) (step y e).after.recorder.energy.rate ≡ high
-      left_high = ap (λ (k : Mem). ltb (most_rate o.phase) k.recorder.energy.rate) (sym q)
+    left_high : ltb (most_rate o.phase) (step y e).after.recorder.energy.rate ≡ high
+    left_high = ap (λ (k : Mem). ltb (most_rate o.phase) k.recorder.energy.rate) (sym q)
 
-      own_answer : answer_of x₀ (of e) ≡ cond high 6 (cond (is_rate e && o.loaded) 15 0)
-      own_answer = answer_by (of e) a p ∙ rw (n, sym (high_is o.phase y ok.low e (sym p ∙ n)) ∙ left_high)
+    own_answer : answer_of x₀ (of e) ≡ cond high 6 (cond (is_rate e && o.loaded) 15 0)
+    own_answer = answer_by (of e) 0 n ∙ rw (sym (high_is o.phase y ok.low e (sym n)) ∙ left_high)
 
-      module _ (l : high ≡ false) where
-        effect_by : (is_rate e && o.loaded) ≡ false → happens x₀ (of e) ≡ record { answer = 0; carried = 0; after = after x₀ (of e) }
-        effect_by f = happens_done x₀ (of e) (own_answer ∙ rw (l, f))
+    module _ (l : high ≡ false) where
+      effect_by : (is_rate e && o.loaded) ≡ false → happens x₀ (of e) ≡ record { answer = 0; carried = 0; after = after x₀ (of e) }
+      effect_by f = happens_done x₀ (of e) (own_answer ∙ rw (l, f))
 
-        -- a table that decides nothing: no time is told, or none is loaded
-        plain : (is_rate e && o.loaded) ≡ false → (tells_time e ≡ true → o.loaded ≡ false) → left d ≡ happens x₀ (of e)
-        unfolding rate_then
-        plain f none =
-            rw n
-            (ap {B = Done} (λ (k : Mem). outcome 0 k o.loaded o.phase b) q
-            ∙ by_test (tells_time e) (λ t. sym (effect_by f ∙ rw (t, none t))) (λ t. sym (effect_by f ∙ rw t)))
+      -- a table that decides nothing: no time is told, or none is loaded
+      plain : (is_rate e && o.loaded) ≡ false → (tells_time e ≡ true → o.loaded ≡ false) → left (Ok rate) ≡ happens x₀ (of e)
+      unfolding rate_then
+      plain f none =
+          ap {B = Done} (λ (k : Mem). outcome 0 k o.loaded o.phase b) q
+          ∙ by_test (tells_time e) (λ t. sym (effect_by f ∙ rw (t, none t))) (λ t. sym (effect_by f ∙ rw t))
 
-        timed : o.loaded ≡ true → is_rate e ≡ false → tells_time e ≡ true
-            → left (record { answer = 0; rate = rate_then true o.phase b time z.recorder.energy.rate }) ≡ happens x₀ (of e)
-        timed k f t =
-            let g : ◌≡◌ {A = Done} (left (record { answer = 0; rate = rate_then true o.phase b time z.recorder.energy.rate })) (record { answer = 0; carried = 0; after = switched (with_mem x₀ z) }) = rw k in
-            g
-            ∙ ap {B = Done} (λ (k : Mem). record { answer = 0; carried = 0; after = switched (with_mem x₀ k) }) q
-            ∙ sym (effect_by (no_left (is_rate e) o.loaded f) ∙ rw t)
+      timed : o.loaded ≡ true → is_rate e ≡ false → tells_time e ≡ true → left (Ok (rate_then true o.phase b time rate)) ≡ happens x₀ (of e)
+      timed k f t =
+          let g : ◌≡◌ {A = Done} (left (Ok (rate_then true o.phase b time rate))) (record { answer = 0; carried = 0; after = switched (with_mem x₀ z) }) = rw k in
+          g
+          ∙ ap {B = Done} (λ (k : Mem). record { answer = 0; carried = 0; after = switched (with_mem x₀ k) }) q
+          ∙ sym (effect_by (no_left (is_rate e) o.loaded f) ∙ rw t)
 
-        under : z.recorder.energy.rate ≤ most_rate o.phase
-        under = ltb-false (most_rate o.phase) z.recorder.energy.rate l
+      by_table : left (rate_after o.loaded o.phase rate time e b) ≡ happens x₀ (of e)
+      by_table =
+          by_test o.loaded
+          (λ k.
+          by_test (is_rate e)
+          (λ g.
+          ap left (after_rate o.loaded o.phase rate time e b l k g)
+          ∙ refusal (of e) 15 (with z (rate_is old z.recorder)) (own_answer ∙ rw (l, g, k)) (number_some Loaded) (back g))
+          (λ g. by_test (tells_time e)
+          (λ t. ap left (after_timed o.loaded o.phase rate time e b l k g t) ∙ timed k g t)
+          (λ t. ap left (after_plain o.loaded o.phase rate time e b l k g t) ∙ plain (no_left (is_rate e) o.loaded g) (λ u. absurd (false≢true (sym t ∙ u))))))
+          (λ k. ap left (after_free o.loaded o.phase rate time e b l k) ∙ plain (no_right (is_rate e) o.loaded k) (λ t. k))
 
-        by_table : left (of_event o.loaded o.phase d old time e b) ≡ happens x₀ (of e)
-        by_table =
-            let most = most_rate o.phase in
-            by_test o.loaded
-            (λ k.
-            let f : not o.loaded ≡ false = rw k in
-            by_test (is_rate e)
-            (λ g.
-            ap {B = Done} left (sym (event_rate o.loaded o.phase d old time e b n most refl under f (is_rate e) refl g))
-            ∙ refusal (of e) 15 (with z (rate_is old z.recorder)) (own_answer ∙ rw (l, g, k)) (λ u. absurd (false≢true (eq-eqb 15 0 u))) (back n g))
-            (λ g. by_test (tells_time e)
-            (λ t. ap {B = Done} left (sym (event_timed o.loaded o.phase d old time e b n most refl under f (is_rate e) refl g (tells_time e) refl t _ refl)) ∙ timed k g t)
-            (λ t.
-            ap {B = Done} left (sym (event_plain o.loaded o.phase d old time e b n most refl under f (is_rate e) refl g (tells_time e) refl t))
-            ∙ plain (no_left (is_rate e) o.loaded g) (λ u. absurd (false≢true (sym t ∙ u))))))
-            (λ k. ap {B = Done} left (sym (event_free o.loaded o.phase d old time e b n most refl under (rw k))) ∙ plain (no_right (is_rate e) o.loaded k) (λ t. k))
+    event_taken : left (rate_after o.loaded o.phase rate time e b) ≡ happens x₀ (of e)
+    event_taken =
+        by_test high
+        (λ h.
+        ap left (after_high o.loaded o.phase rate time e b h)
+        ∙ refusal (of e) 6 (with z (rate_is old z.recorder)) (own_answer ∙ rw h) (number_some Range) (back (high_rate o.phase y ok.low e (left_high ∙ h))))
+        (λ h. by_table h)
 
-      event_taken : left (of_event o.loaded o.phase d old time e b) ≡ happens x₀ (of e)
-      event_taken =
-          by_test high
-          (λ h.
-          ap {B = Done} left (sym (event_high o.loaded o.phase d old time e b n (most_rate o.phase) refl (ltb-true _ _ h)))
-          ∙ refusal (of e) 6 (with z (rate_is old z.recorder)) (own_answer ∙ rw h) (λ u. absurd (false≢true (eq-eqb 6 0 u)))
-          (back n (high_rate o.phase y ok.low e (left_high ∙ h))))
-          (λ h. by_table h)
+  module _ (e : Event) (r₁ : Recorder) (v₁ s₁ m₁ : List ℕ) where
+    pub event_refused : (x : Refusal) → stepping (Err x) r₁ v₁ s₁ m₁ ≡ step (mem o.recorder v s m) e
+        → done (Err x) (record { recorder = r₁; loaded = o.loaded; phase = o.phase }) v₁ s₁ m₁ b ≡ happens (site o v s m b) (of e)
+    unfolding step
+    event_refused x st =
+        let a : number_of x ≡ (step y e).answer = ap (λ (j : Stepping). j.answer) st in
+        let c : carried_of x ≡ 0 = ap (λ (j : Stepping). j.carried) st in
+        rw c
+        (refusal (of e) (number_of x) (mem r₁ v₁ s₁ m₁) (answer_by (of e) (number_of x) a ∙ rw (ne_eqb (number_of x) 0 (number_some x))) (number_some x)
+        (ap (λ (j : Stepping). j.after) st ∙ refused_stays y e (λ k. number_some x (a ∙ k))))
 
-    event_by : left (of_event o.loaded o.phase d old time e b) ≡ happens x₀ (of e)
-    event_by =
-        by_test (eqb a 0)
-        (λ n. event_taken (eqb-true a 0 n))
-        (λ n.
-        ap {B = Done} left (sym (event_refused o.loaded o.phase d old time e b (eqb-false a 0 n)))
-        ∙ refusal (of e) a z (answer_by (of e) a p ∙ rw n) (eqb-false a 0 n) (q ∙ refused_stays y e (λ k. eqb-false a 0 n (p ∙ k))))
+    module _ (u : Unit {0}) (st : stepping (Ok u) r₁ v₁ s₁ m₁ ≡ step (mem o.recorder v s m) e) where
+      taken : left e (mem r₁ v₁ s₁ m₁) (ap (λ (j : Stepping). j.answer) st) (ap (λ (j : Stepping). j.after) st) (rate_after o.loaded o.phase r₁.energy.rate r₁.clock.time e b)
+          ≡ happens (site o v s m b) (of e)
+      taken = event_taken e (mem r₁ v₁ s₁ m₁) (ap (λ (j : Stepping). j.answer) st) (ap (λ (j : Stepping). j.after) st)
 
-  pub event_happened : (e : Event) (d : Stepped) (v₁ s₁ m₁ : List ℕ) → stepping d v₁ s₁ m₁ ≡ step (mem o.recorder v s m) e
-      → (c : Decided) → c ≡ of_event o.loaded o.phase (record { answer = d.answer; rate = d.recorder.energy.rate }) o.recorder.energy.rate d.recorder.clock.time e b
-      → (r : Answered) → r ≡ after_of o d.recorder c → done r v₁ s₁ m₁ b ≡ happens (site o v s m b) (of e)
-  event_happened e d v₁ s₁ m₁ st c t r u =
-      ap {B = Done} (λ (j : Answered). done j v₁ s₁ m₁ b) u
-      ∙ ap {B = Done} (λ (j : Decided). done (after_of o d.recorder j) v₁ s₁ m₁ b) t
-      ∙ event_by e d.answer (mem d.recorder v₁ s₁ m₁) (ap (λ (j : Stepping). j.answer) st) (ap (λ (j : Stepping). j.after) st)
+      pub event_done : (c : ℕ) → Ok c ≡ rate_after o.loaded o.phase r₁.energy.rate r₁.clock.time e b
+          → done (Ok u) (record { recorder = rate_is c r₁; loaded = o.loaded; phase = o.phase }) v₁ s₁ m₁ b ≡ happens (site o v s m b) (of e)
+      event_done c t = rw (← t) at taken
+
+      pub event_undone : (x : Refusal) → Err x ≡ rate_after o.loaded o.phase r₁.energy.rate r₁.clock.time e b
+          → done (Err x) (record { recorder = rate_is o.recorder.energy.rate r₁; loaded = o.loaded; phase = o.phase }) v₁ s₁ m₁ b ≡ happens (site o v s m b) (of e)
+      event_undone x t = rw (← t) at taken
 
   -- ---- a load and a conversion, by what the recorder answers to a Rate
 
-  module _ (a : ℕ) (p : a ≡ answer_with o.recorder (Rate 1) (length v) (length s) (length m)) where
-    ready_answer : (h : Happening) → asked h ≡ Rate 1 → answer_of x₀ h ≡ cond (not (eqb a 0)) a (first_failing (own_checks x₀ h))
-    unfolding step step_answer
-    ready_answer h k = answer_by h a (p ∙ ap (λ (e : Event). (step y e).answer) (sym k))
+  ready_answer : (h : Happening) (a : ℕ) → a ≡ answer_with o.recorder (Rate 1) (length v) (length s) (length m) → asked h ≡ Rate 1
+      → answer_of x₀ h ≡ cond (not (eqb a 0)) a (first_failing (own_checks x₀ h))
+  unfolding step step_answer
+  ready_answer h a p k = answer_by h a (p ∙ ap (λ (e : Event). (step y e).answer) (sym k))
 
-    unready : (h : Happening) → asked h ≡ Rate 1 → (a ≡ 0 → ⊥) → (r : Answered) → r ≡ answered o a → done r v s m b ≡ happens x₀ h
-    unready h k ne r u = rw u (refusal h a y (ready_answer h k ∙ rw (ne_eqb a 0 ne)) ne refl)
+  module _ (x : Refusal) (p : number_of x ≡ answer_with o.recorder (Rate 1) (length v) (length s) (length m)) (c : carried_of x ≡ 0) where
+    unready : (h : Happening) → asked h ≡ Rate 1 → done (Err x) o v s m b ≡ happens x₀ h
+    unready h k = refused_with o v s m b h x c (ready_answer h (number_of x) p k ∙ rw (ne_eqb (number_of x) 0 (number_some x)))
 
-    pub load_unready : (f : List ℕ) → (a ≡ 0 → ⊥) → (r : Answered) → r ≡ answered o a → done r v s m b ≡ happens (site o v s m b) (load f)
+    pub load_unready : (f : List ℕ) → done (Err x) o v s m b ≡ happens (site o v s m b) (load f)
     load_unready f = unready (load f) refl
 
-    pub single_unready : (a ≡ 0 → ⊥) → (r : Answered) → r ≡ answered o a → done r v s m b ≡ happens (site o v s m b) single
+    pub single_unready : done (Err x) o v s m b ≡ happens (site o v s m b) single
     single_unready = unready single refl
 
-    module _ (z : a ≡ 0) where
-      module _ (f : List ℕ) where
-        module _ (n : ℕ) (w : n ≡ most_rate o.phase) (k : Bool) (i : k ≡ names_above n f) where
-          pub load_high : k ≡ true → (r : Answered) → r ≡ answered o 6 → done r v s m b ≡ happens (site o v s m b) (load f)
-          load_high h r u =
-              rw u (refusal (load f) 6 y (ready_answer (load f) refl ∙ rw (eq-eqb a 0 z, ← w, ← i, h)) (λ t. absurd (false≢true (eq-eqb 6 0 t))) refl)
+  module _ (p : 0 ≡ answer_with o.recorder (Rate 1) (length v) (length s) (length m)) where
+    module _ (f : List ℕ) (n : ℕ) (w : n ≡ most_rate o.phase) (k : Bool) (i : k ≡ names_above n f) where
+      pub load_high : k ≡ true → done (Err Range) o v s m b ≡ happens (site o v s m b) (load f)
+      load_high h = refused_with o v s m b (load f) Range refl (ready_answer (load f) 0 p refl ∙ rw (← w, ← i, h))
 
-          module _ (h : k ≡ false) (j : ℕ) (q : j ≡ judged f) where
-            load_judged : answer_of x₀ (load f) ≡ cond (not (eqb (judged f) 0)) (judged f) 0
-            load_judged = ready_answer (load f) refl ∙ rw (eq-eqb a 0 z, ← w, ← i, h)
+      module _ (h : k ≡ false) where
+        load_judged : answer_of x₀ (load f) ≡ cond (not (eqb (judged f) 0)) (judged f) 0
+        load_judged = ready_answer (load f) 0 p refl ∙ rw (← w, ← i, h)
 
-            pub load_bad : (j ≡ 0 → ⊥) → (r : Answered) → r ≡ answered o j → done r v s m b ≡ happens (site o v s m b) (load f)
-            load_bad ne r u = rw u (refusal (load f) j y (load_judged ∙ rw (← q, ne_eqb j 0 ne)) ne refl)
+        pub load_bad : (x : Refusal) → number_of x ≡ judged f → done (Err x) o v s m b ≡ happens (site o v s m b) (load f)
+        load_bad x q = refused_with o v s m b (load f) x (judged_bare f x q) (load_judged ∙ rw (← q, ne_eqb (number_of x) 0 (number_some x)))
 
-            pub load_done : j ≡ 0 → (b₁ : List ℕ) → b₁ ≡ f → (t : ℕ) → t ≡ rate_then true o.phase b₁ o.recorder.clock.time o.recorder.energy.rate
-                → (r : Answered) → r ≡ answered (record { recorder = rate_is t o.recorder; loaded = true; phase = o.phase }) 0 → done r v s m b₁ ≡ happens (site o v s m b) (load f)
-            load_done y₁ b₁ c t g r u =
-                rw (u, g, c) (sym (happens_done x₀ (load f) (load_judged ∙ rw (eq-eqb (judged f) 0 (sym q ∙ y₁)))))
+        pub load_done : 0 ≡ judged f → (u : Unit {0}) (b₁ : List ℕ) → b₁ ≡ f → (t : ℕ) → t ≡ rate_then true o.phase b₁ o.recorder.clock.time o.recorder.energy.rate
+            → done (Ok u) (record { recorder = rate_is t o.recorder; loaded = true; phase = o.phase }) v s m b₁ ≡ happens (site o v s m b) (load f)
+        load_done j u b₁ c t g = rw (g, c) (sym (happens_done x₀ (load f) (load_judged ∙ rw (← j))))
 
-      module _ (k : Bool) (i : k ≡ names_above (most_rate Single) b) where
-        pub single_named : (o.loaded && k) ≡ true → (r : Answered) → r ≡ answered o 6 → done r v s m b ≡ happens (site o v s m b) single
-        single_named h r u =
-            rw u (refusal single 6 y (ready_answer single refl ∙ rw (eq-eqb a 0 z, ← i, h)) (λ t. absurd (false≢true (eq-eqb 6 0 t))) refl)
+    module _ (k : Bool) (i : k ≡ names_above (most_rate Single) b) where
+      pub single_named : (o.loaded && k) ≡ true → done (Err Range) o v s m b ≡ happens (site o v s m b) single
+      single_named h = refused_with o v s m b single Range refl (ready_answer single 0 p refl ∙ rw (← i, h))
 
-        pub single_done : (o.loaded && k) ≡ false → (t : ℕ) → t ≡ rate_kept o.recorder.energy.rate
-            → (r : Answered) → r ≡ answered (record { recorder = rate_is t o.recorder; loaded = o.loaded; phase = Single }) 0 → done r v s m b ≡ happens (site o v s m b) single
-        single_done h t g r u = rw (u, g) (sym (happens_done x₀ single (ready_answer single refl ∙ rw (eq-eqb a 0 z, ← i, h))))
-
--- ---- a whole copy
-
-pub copied : (l f k : List ℕ) → length f ≡ table_size → length l ≡ table_size → k ≡ sets l 0 f → k ≡ f
-copied l f k p q e =
-    e ∙ sets-eq f l 0 (omega (arith, p, q))
-    ∙ ap (λ (r : List ℕ). f ++ r) (ap (λ (n : ℕ). drop n l) (let g : 0 + length f ≡ length l = omega (arith, p, q) in g) ∙ drop-length l)
-    ∙ append-nil f
+      pub single_done : (o.loaded && k) ≡ false → (u : Unit {0}) (t : ℕ) → t ≡ rate_kept o.recorder.energy.rate
+          → done (Ok u) (record { recorder = rate_is t o.recorder; loaded = o.loaded; phase = Single }) v s m b ≡ happens (site o v s m b) single
+      single_done h u t g = rw g (sym (happens_done x₀ single (ready_answer single 0 p refl ∙ rw (← i, h))))

@@ -1,6 +1,8 @@
 -- An outstation (docs/TARIFF.md, "In the outstation"; docs/RULES.md, "Phases"): the recorder beside its store, a switching table that chooses its rate once one is loaded, and the phase kind, which says up to which rate may be
 -- chosen at all.
-use Rattle.std.specs.Prelude.{ℕ, Bool, true, false, not, cond, ◌&&◌, List, [], ◌∷◌, eqb, ltb, leb, length}
+use Rattle.std.specs.Prelude.{ℕ, Result, Bool, true, false, not, cond, ◌&&◌, List, [], ◌∷◌, eqb, ltb, leb, length}
+use Rattle.answers.specs.declared.Refusal.{Refusal}
+use Rattle.answers.specs.Answer.{judged_as}
 use Rattle.laws.specs.Checks.{Check, check, first_failing}
 use Rattle.recorder.specs.declared.Event.{Event}
 use Rattle.recorder.specs.declared.Event.TheVariants.{Count, Clock, Off, On, Access, Meter, Reset, Rate, Reverse, Ppp, Adjust}
@@ -10,7 +12,7 @@ use Rattle.recorder.specs.declared.Recorder.{Recorder}
 use Rattle.recorder.specs.Recorder.{Mem, mem, with, cap_of}
 use Rattle.recorder.specs.Effect.{rate_is}
 use Rattle.recorder.specs.Answer.{no_class}
-use Rattle.recorder.specs.Step.{step}
+use Rattle.recorder.specs.Step.{carried_by, step}
 use Rattle.tariff.specs.Table.{table_size}
 use Rattle.tariff.specs.Judge.{names_above, judged}
 use Rattle.tariff.specs.Rate.{rate_at}
@@ -19,7 +21,6 @@ use Rattle.outstation.specs.declared.Phase.{Phase}
 use Rattle.outstation.specs.declared.Phase.TheVariants.{Single, Poly}
 use Rattle.outstation.specs.declared.Happening.{Happening as Told}
 use Rattle.outstation.specs.declared.Happening.TheVariants.{Of as ToldOf, Load as ToldLoad, Single as ToldSingle}
-use Rattle.outstation.specs.declared.Answered.{Answered}
 
 -- the highest rate that can be chosen; there are eight registers all the same
 abbrev pub most_rate : Phase → ℕ
@@ -150,8 +151,8 @@ pub record Done : Type 0 where
   pub carried : ℕ
   pub after : Site
 
-abbrev pub done : Answered → List ℕ → List ℕ → List ℕ → List ℕ → Done
-done d v s m b = record { answer = d.answer; carried = d.carried; after = site d.outstation v s m b }
+abbrev pub done : Result (Unit {0}) Refusal → Outstation → List ℕ → List ℕ → List ℕ → List ℕ → Done
+done a o v s m b = record { answer = judged_as a; carried = carried_by a; after = site o v s m b }
 
 unfoldable pub happens : Site → Happening → Done
 happens x h = record { answer = answer_of x h; carried = 0; after = cond (eqb (answer_of x h) 0) (after x h) x }

@@ -1,38 +1,14 @@
 -- No more is taken or dropped than there is; an element or 0; a row stored element by element.
 -- Assumes nothing.
-use Prim.Native.Nat.{ℕ, ◌+◌, ◌-◌, ◌≤◌, ◌<◌, min}
-use mathlib.Core.Path.{◌≡◌, refl, sym, ap, ◌∙◌}
+use Prim.Native.Nat.{ℕ, ◌+◌, ◌≤◌, ◌<◌}
+use mathlib.Core.Path.{◌≡◌, refl, sym, ◌∙◌}
 use mathlib.Core.List.{List}
 use native.Mathlib.Omega.{arith}
-use native.Mathlib.Decide.{dec_lt}
-use lib.ListN.{length, take, drop, get_or, set, length-set, length-drop, drop_of_length-le, get_or-eq_default}
-use lib.Seq.{sets, take_all}
+use lib.ListN.{length, get_or, set, length-set, get_or-eq_default}
+use lib.Seq.{sets}
 use Rattle.laws.specs.Table.{table}
 use Rattle.laws.proofs.Rows.{none_stored, row_next}
-use Rattle.laws.proofs.Split.{by_dec}
 use Rattle.parts.specs.Rows.{number_in}
-
-take_least : (n : ℕ) (l : List ℕ) → take (min n (length l)) l ≡ take n l
-take_least n l =
-    by_dec (dec_lt n (length l))
-    (λ h. let e : min n (length l) ≡ n = omega (arith, h) in ap (λ (i : ℕ). take i l) e)
-    (λ h. take_all (min n (length l)) l (omega (arith, h)) ∙ sym (take_all n l (omega (arith, h))))
-
-drop_least : (n : ℕ) (l : List ℕ) → drop (min n (length l)) l ≡ drop n l
-drop_least n l =
-    by_dec (dec_lt n (length l))
-    (λ h. let e : min n (length l) ≡ n = omega (arith, h) in ap (λ (i : ℕ). drop i l) e)
-    (λ h. drop_of_length-le l {i = min n (length l)} (omega (arith, h)) ∙ sym (drop_of_length-le l {i = n} (omega (arith, h))))
-
-least_is : (l : List ℕ) (n k : ℕ) → k ≡ min n (length l) → take k l ≡ take n l
-least_is l n k e = ap (λ (i : ℕ). take i l) e ∙ take_least n l
-
-pub part_is : (l : List ℕ) (from n a k : ℕ) → a ≡ min from (length l) → k ≡ min n (length l - a) → take (a + k - a) (drop a l) ≡ take n (drop from l)
-part_is l from n a k p q =
-    let d : drop a l ≡ drop from l = ap (λ (i : ℕ). drop i l) p ∙ drop_least from l in
-    let s : length l - a ≡ length (drop a l) = sym (length-drop a l) in
-    let j : a + k - a ≡ k = omega arith in
-    ap (λ (i : ℕ). take i (drop a l)) j ∙ least_is (drop a l) n k (q ∙ ap (λ (i : ℕ). min n i) s) ∙ ap (λ (t : List ℕ). take n t) d
 
 -- ---- one element
 

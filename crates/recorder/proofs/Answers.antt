@@ -1,18 +1,19 @@
 -- The checks in their order, in the form that the code's returns look for, and what an answer of 0 says.
 -- Assumes nothing.
 use Prim.Native.Nat.{ℕ, ◌+◌, ◌*◌, ◌%◌, ◌<◌, ◌≤◌}
-use mathlib.Core.Bool.{Bool, true, false, not, cond, ◌&&◌}
+use mathlib.Core.Bool.{Bool, true, false, not, ◌&&◌}
 use mathlib.Core.Path.{◌≡◌, refl, sym, ◌∙◌}
 use mathlib.Core.List.{List}
 use native.Mathlib.Omega.{arith}
 use borrow.Author.Tests.{eq-eqb, ne_eqb, eqb-true, eqb-false, leb-true, ltb-true, ltb-false, leb-false, not-false}
 use lib.Dec.{leb, ltb, eqb}
 use lib.ListN.{length}
+use Rattle.answers.specs.declared.Refusal.{Refusal}
+use Rattle.answers.specs.Answer.{number_of}
+use Rattle.answers.proofs.Numbers.{above_0}
 use Rattle.laws.specs.Tests.{all_true}
 use Rattle.laws.proofs.Bools.{both, passed, failed}
 use Rattle.laws.proofs.Checks.{NoneFails, none_fails}
-use Rattle.quantity.specs.declared.RegisterUnits.{RegisterUnits}
-use Rattle.quantity.specs.Units.{units}
 use Rattle.registers.specs.declared.Shift.{Shift}
 use Rattle.registers.specs.declared.Shift.TheVariants.{Ahead, Back}
 use Rattle.registers.specs.Energy.{Countable}
@@ -25,9 +26,13 @@ use Rattle.store.specs.Store.{Fits, store}
 use Rattle.recorder.specs.Recorder.{Recorder, Event, Clock, On, Adjust, Mem, mem, with, cap_of}
 use Rattle.recorder.specs.Range.{identity_tests, register_tests, in_range}
 use Rattle.recorder.specs.Effect.{accessed}
-use Rattle.recorder.specs.Answer.{wrong_power, too_early, most_units, units_after, event_answer, in_time, checks, answer_with, answer_of}
+use Rattle.recorder.specs.Answer.{wrong_power, too_early, units_after, event_answer, in_time, checks, answer_with, answer_of}
 use Rattle.recorder.specs.Needs.{Good, Goes, Resets, Flaggable}
 use Rattle.recorder.proofs.Ranges.{Ranges, ranges, countable}
+
+-- a refusal's number is not that of what is done
+pub number_some : (r : Refusal) → number_of r ≡ 0 → ⊥
+number_some r e = omega (arith, above_0 r)
 
 -- the ranges, judged in two parts
 pub in_halves : (r : Recorder) (d : ℕ) (a b : Bool) → d ≡ cap_of r → a ≡ all_true (identity_tests r.identity)
@@ -63,11 +68,6 @@ module _ (r : Recorder) (e : Event) (v s m : ℕ) (d : ℕ) (p : d ≡ cap_of r)
       pub event_judged : not g ≡ false → (a : ℕ) → a ≡ event_answer r.clock.on r.clock.time (units_after r) e → a ≡ answer_with r e v s m
       unfolding answer_with event_answer
       event_judged u a w = w ∙ rw (real, passed f _ q t, passed g _ k u)
-
--- a Count's two checks
-pub count_judged : (r : Recorder) (c : ℕ) (u : RegisterUnits) (a b : ℕ) → u ≡ units (units_after r c) → b ≡ cond (ltb most_units u.0) 3 0 → a ≡ cond (not r.clock.on) 1 b
-    → a ≡ cond (not r.clock.on) 1 (cond (ltb most_units (units_after r c)) 3 0)
-count_judged r c u a b p q t = rw (t, q, p)
 
 -- the lengths that passed
 pub right_lengths_lem : (cap v s m : ℕ) → right_lengths cap v s m ≡ true → (v ≡ cap * halves_of_day) × (s ≡ cap) × (m ≡ cap * day_words)

@@ -2,24 +2,23 @@
 -- Assumes nothing.
 use Prim.Native.Nat.{ℕ, ◌+◌}
 use mathlib.Core.Bool.{Bool, true, false, cond}
-use mathlib.Core.List.{List, [], ◌∷◌}
+use mathlib.Core.List.{List}
 use mathlib.Core.Path.{◌≡◌, refl, sym, ap, ◌∙◌, subst}
-use native.Mathlib.Omega.{arith}
 use borrow.Author.Tests.{ne_eqb, not-false}
 use lib.ListN.{length}
-use Rattle.format.specs.Identifier.{with_ppp}
+use Rattle.std.specs.Prelude.{Option, Some, None, Ok, Err}
+use Rattle.answers.specs.declared.Refusal.{Refusal}
+use Rattle.answers.specs.Answer.{number_of, carried_of}
 use Rattle.registers.specs.declared.Shift.{Shift}
-use Rattle.registers.specs.Shift.{shifted, early}
+use Rattle.registers.specs.Shift.{shifted}
 use Rattle.store.specs.Store.{flagged}
-use Rattle.recorder.specs.declared.step.Told.{Told}
-use Rattle.recorder.specs.declared.step.Told.TheVariants.{Is, Not}
 use Rattle.recorder.specs.Recorder.{Identity, Recorder, Mem, Event, Count, Clock, Off, On, Access, Meter, Reset, Rate, Reverse, Ppp, Adjust, mem, cap_of, today_of, with_identity}
 use Rattle.recorder.specs.Boundary.{advance_to}
-use Rattle.recorder.specs.Effect.{power_lost, ppp_is, accessed, first_flagged, flag_from, turned_on, after}
-use Rattle.recorder.specs.Answer.{too_early, wrong_power, answer_with, answer_of}
+use Rattle.recorder.specs.Effect.{power_lost, accessed, first_flagged, flag_from, turned_on, after}
+use Rattle.recorder.specs.Answer.{wrong_power, answer_with, answer_of}
 use Rattle.recorder.specs.Step.{Done, done, step}
 use Rattle.recorder.specs.Needs.{Good, Goes, Flaggable, time_in, marked_if, told}
-use Rattle.recorder.proofs.Answers.{accepted_power, accepted_clock, accepted_on, accepted_adjust, marked_goes}
+use Rattle.recorder.proofs.Answers.{number_some, accepted_power, accepted_clock, accepted_on, accepted_adjust, marked_goes}
 use Rattle.recorder.proofs.Boundaries.{same_identity, gone_good}
 
 -- when time has gone on, the identity may as well be the one that was there
@@ -48,39 +47,30 @@ pub clock_done : (t : ℕ) (r y : Recorder) (v s m v₁ s₁ m₁ : List ℕ) �
     → mem (with_identity r.identity y) v₁ s₁ m₁ ≡ told t (mem r v s m)
 clock_done t r y v s m v₁ s₁ m₁ o p g = let x = mem r v s m in same_named t x y v₁ s₁ m₁ g p ∙ sym (ap (λ (b : Bool). cond b (advance_to t x) (turned_on t x)) o)
 
--- the identifier with another PPP, in its group and in the recorder
-pub ppp_done : (r : Recorder) (a b c : ℕ) (named : List ℕ) → named ≡ with_ppp (a ∷ b ∷ c ∷ []) r.identity.identifier
-    → accessed (with_identity (record { identifier = named; class = r.identity.class; weight = r.identity.weight }) r) ≡ accessed (ppp_is a b c r)
-ppp_done r a b c named e = rw e
-
 -- an event that tells the time, and one that does not
-abbrev order : Told → ℕ
-order (Is t b) = 1
-order Not = 0
+abbrev Told : Type 0
+Told = Option (ℕ × Bool)
 
-no_time : {A : Type 0} (t : ℕ) (b : Bool) → Not ≡ Is t b → A
-no_time t b p = absurd (let q : 0 ≡ 1 = ap order p in omega arith)
+no_time : {A : Type 0} (w : ℕ × Bool) → None ≡ Some w → A
+no_time w p = absurd (cc)
 
-pub not_told : (now : ℕ) (e : Event) (w : Told) → w ≡ time_in now e → w ≡ Not → time_in now e ≡ Not
+pub not_told : (now : ℕ) (e : Event) (w : Told) → w ≡ time_in now e → w ≡ None → time_in now e ≡ None
 not_told now e w p q = sym p ∙ q
 
-pub no_clock : (now : ℕ) (e : Event) (t : ℕ) → time_in now e ≡ Not → e ≡ Clock t → ⊥
-no_clock now e t p q = no_time t false (sym p ∙ ap (time_in now) q)
+pub no_clock : (now : ℕ) (e : Event) (t : ℕ) → time_in now e ≡ None → e ≡ Clock t → ⊥
+no_clock now e t p q = no_time (t, false) (sym p ∙ ap (time_in now) q)
 
-pub no_on : (now : ℕ) (e : Event) (t : ℕ) → time_in now e ≡ Not → e ≡ On t → ⊥
-no_on now e t p q = no_time t false (sym p ∙ ap (time_in now) q)
+pub no_on : (now : ℕ) (e : Event) (t : ℕ) → time_in now e ≡ None → e ≡ On t → ⊥
+no_on now e t p q = no_time (t, false) (sym p ∙ ap (time_in now) q)
 
-pub no_adjust : (now : ℕ) (e : Event) (h : Shift) → time_in now e ≡ Not → e ≡ Adjust h → ⊥
-no_adjust now e h p q = no_time (shifted now h) true (sym p ∙ ap (time_in now) q)
-
-pub adjust_begun : (now : ℕ) (e : Event) (h : Shift) → too_early now e ≡ false → e ≡ Adjust h → early now h ≡ false
-adjust_begun now e h p q = rw q at p
+pub no_adjust : (now : ℕ) (e : Event) (h : Shift) → time_in now e ≡ None → e ≡ Adjust h → ⊥
+no_adjust now e h p q = no_time (shifted now h, true) (sym p ∙ ap (time_in now) q)
 
 module _ (r : Recorder) (v s m : List ℕ) where
   -- time can go on as it is told, the recorder marked first where that is said
   abbrev GoesBy : Told → Type 0
-  GoesBy (Is t b) = Goes t (mem (marked_if b r) v s m)
-  GoesBy Not = Unit {0}
+  GoesBy (Some (t, b)) = Goes t (mem (marked_if b r) v s m)
+  GoesBy None = Unit {0}
 
   goes_by : (e : Event) → answer_of (mem r v s m) e ≡ 0 → GoesBy (time_in r.clock.time e)
   goes_by (Count c) a = tt
@@ -95,14 +85,14 @@ module _ (r : Recorder) (v s m : List ℕ) where
   goes_by (Ppp x y z) a = tt
   goes_by (Adjust h) a = marked_goes (shifted r.clock.time h) (mem r v s m) (accepted_adjust r (Adjust h) v s m a h refl)
 
-  pub told_goes : (y : Recorder) (e : Event) (w : Told) (t : ℕ) (b : Bool) → answer_of (mem r v s m) e ≡ 0 → w ≡ time_in r.clock.time e → w ≡ Is t b
+  pub told_goes : (y : Recorder) (e : Event) (w : Told) (t : ℕ) (b : Bool) → answer_of (mem r v s m) e ≡ 0 → w ≡ time_in r.clock.time e → w ≡ Some (t, b)
       → y ≡ marked_if b r → Goes t (mem y v s m)
   told_goes y e w t b a p q d = rw d (subst (λ (u : Told). GoesBy u) (sym p ∙ q) (goes_by e a))
 
   -- and what is done then is what the event does
   abbrev DoneBy : Event → Told → Type 0
-  DoneBy e (Is t b) = told t (mem (marked_if b r) v s m) ≡ after (mem r v s m) e
-  DoneBy e Not = Unit {0}
+  DoneBy e (Some (t, b)) = told t (mem (marked_if b r) v s m) ≡ after (mem r v s m) e
+  DoneBy e None = Unit {0}
 
   by_power : (t : ℕ) (y : Recorder) (b : Bool) → y.clock.on ≡ b → told t (mem y v s m) ≡ cond b (advance_to t (mem y v s m)) (turned_on t (mem y v s m))
   by_power t y b o = ap (λ (b : Bool). cond b (advance_to t (mem y v s m)) (turned_on t (mem y v s m))) o
@@ -121,22 +111,22 @@ module _ (r : Recorder) (v s m : List ℕ) where
   done_by (Ppp x y z) a = tt
   done_by (Adjust h) a = by_power (shifted r.clock.time h) (accessed r) true (not-false r.clock.on (accepted_power r (Adjust h) v s m a))
 
-  pub told_done : (y z : Recorder) (e : Event) (v₁ s₁ m₁ : List ℕ) (w : Told) (t : ℕ) (b : Bool) → answer_of (mem r v s m) e ≡ 0 → w ≡ time_in r.clock.time e → w ≡ Is t b
+  pub told_done : (y z : Recorder) (e : Event) (v₁ s₁ m₁ : List ℕ) (w : Told) (t : ℕ) (b : Bool) → answer_of (mem r v s m) e ≡ 0 → w ≡ time_in r.clock.time e → w ≡ Some (t, b)
       → y ≡ marked_if b r → mem z v₁ s₁ m₁ ≡ told t (mem y v s m) → mem z v₁ s₁ m₁ ≡ after (mem r v s m) e
   told_done y z e v₁ s₁ m₁ w t b a p q d g =
       g ∙ ap (λ (k : Recorder). told t (mem k v s m)) d ∙ subst (λ (u : Told). DoneBy e u) (sym p ∙ q) (done_by e a)
 
--- a step, by the answer a: refused, accepted and done
-module _ (r : Recorder) (e : Event) (a : ℕ) (v s m : List ℕ) (p : a ≡ answer_with r e (length v) (length s) (length m)) where
-  pub step_refused : (a ≡ 0 → ⊥) → done (record { recorder = r; answer = a; carried = 0 }) v s m ≡ step (mem r v s m) e
+-- a step: refused with nothing carried, or accepted and done
+module _ (r : Recorder) (e : Event) (v s m : List ℕ) where
+  pub step_refused : (x : Refusal) → number_of x ≡ answer_with r e (length v) (length s) (length m) → carried_of x ≡ 0 → done (Err x) r v s m ≡ step (mem r v s m) e
   unfolding step answer_of
-  step_refused ne = rw (← p, ne_eqb a 0 ne)
+  step_refused x p q = rw (← p, q, ne_eqb (number_of x) 0 (number_some x))
 
-  pub step_accepted : a ≡ 0 → answer_of (mem r v s m) e ≡ 0
-  unfolding answer_of
-  step_accepted z = sym p ∙ z
+  module _ (p : 0 ≡ answer_with r e (length v) (length s) (length m)) where
+    pub step_accepted : answer_of (mem r v s m) e ≡ 0
+    unfolding answer_of
+    step_accepted = sym p
 
-  pub step_done : (y : Recorder) (v₁ s₁ m₁ : List ℕ) → a ≡ 0 → mem y v₁ s₁ m₁ ≡ after (mem r v s m) e
-      → done (record { recorder = y; answer = 0; carried = 0 }) v₁ s₁ m₁ ≡ step (mem r v s m) e
-  unfolding step answer_of
-  step_done y v₁ s₁ m₁ z q = ap {B = Done} (λ (w : Mem). record { answer = 0; carried = 0; after = w }) q ∙ rw (← p, z)
+    pub step_done : (u : Unit {0}) (y : Recorder) (v₁ s₁ m₁ : List ℕ) → mem y v₁ s₁ m₁ ≡ after (mem r v s m) e → done (Ok u) y v₁ s₁ m₁ ≡ step (mem r v s m) e
+    unfolding step answer_of
+    step_done u y v₁ s₁ m₁ q = ap {B = Done} (λ (w : Mem). record { answer = 0; carried = 0; after = w }) q ∙ rw (← p)

@@ -7,6 +7,9 @@ use mathlib.Core.Path.{◌≡◌, refl, sym, ap, ◌∙◌}
 use native.Mathlib.Omega.{arith}
 use borrow.Author.Tests.{ne_eqb, leb-true, ltb-true, not-false}
 use lib.ListN.{length}
+use Rattle.std.specs.Prelude.{Ok, Err}
+use Rattle.answers.specs.declared.Refusal.{Refusal}
+use Rattle.answers.specs.Answer.{number_of, carried_of}
 use Rattle.laws.proofs.Bools.{passed, failed}
 use Rattle.laws.proofs.Checks.{NoneFails, none_fails}
 use Rattle.laws.proofs.Tests.{all_true_each}
@@ -20,9 +23,9 @@ use Rattle.store.specs.Store.{Store, Goes, store}
 use Rattle.recorder.specs.declared.SetUp.{SetUp}
 use Rattle.recorder.specs.Recorder.{Recorder}
 use Rattle.recorder.specs.Step.{Done, done}
-use Rattle.recorder.specs.SetUp.{set_up_tests, set_up_checks, set_up_with, set_up_answer, fresh, blank, store_begun, made, set_up}
+use Rattle.recorder.specs.SetUp.{set_up_tests, set_up_checks, set_up_with, set_up_answer, fresh, store_begun, made, blank, set_up}
 use Rattle.recorder.specs.Needs.{Begins}
-use Rattle.recorder.proofs.Answers.{days_few, right_lengths_lem}
+use Rattle.recorder.proofs.Answers.{number_some, days_few, right_lengths_lem}
 
 module _ (g : SetUp) (v s m : ℕ) (b : Bool) (p : b ≡ all_true (set_up_tests g)) where
   pub bad_value_lem : not b ≡ true → 6 ≡ set_up_with g v s m
@@ -55,22 +58,21 @@ set_up_begins g x e =
       fits = record { some = leb-true _ _ t.1.0; most = days_few g.class; values = f.0; starts = f.1; marks = f.2 };
     }
 
--- the code's way there
-pub begins : (g : SetUp) (x : Store) (a : ℕ) → a ≡ set_up_answer g x → a ≡ 0 → Begins g x
-begins g x a p z = set_up_begins g x (sym p ∙ z)
+-- the code's way there: what it is answered passes, or refuses with nothing carried
+pub begins : (g : SetUp) (x : Store) → 0 ≡ set_up_answer g x → Begins g x
+begins g x p = set_up_begins g x (sym p)
 
-pub set_up_refused : (g : SetUp) (y : Recorder) (a : ℕ) (v s m : List ℕ) → a ≡ set_up_answer g (store v s m) → (a ≡ 0 → ⊥) → y ≡ blank
-    → done (record { recorder = y; answer = a; carried = 0 }) v s m ≡ set_up g (store v s m)
+pub set_up_refused : (g : SetUp) (e : Refusal) (v s m : List ℕ) → number_of e ≡ set_up_answer g (store v s m) → carried_of e ≡ 0 → done (Err e) blank v s m ≡ set_up g (store v s m)
 unfolding set_up
-set_up_refused g y a v s m p ne q = rw (← p, ne_eqb a 0 ne, q)
+set_up_refused g e v s m p q = rw (← p, q, ne_eqb (number_of e) 0 (number_some e))
 
-pub set_up_done : (g : SetUp) (y : Recorder) (a : ℕ) (v s m v₁ s₁ m₁ : List ℕ) → a ≡ set_up_answer g (store v s m) → a ≡ 0 → store v₁ s₁ m₁ ≡ store_begun g → y ≡ fresh g
-    → done (record { recorder = y; answer = 0; carried = 0 }) v₁ s₁ m₁ ≡ set_up g (store v s m)
+pub set_up_done : (g : SetUp) (y : Recorder) (v s m v₁ s₁ m₁ : List ℕ) → 0 ≡ set_up_answer g (store v s m) → store v₁ s₁ m₁ ≡ store_begun g → y ≡ fresh g
+    → done (Ok tt) y v₁ s₁ m₁ ≡ set_up g (store v s m)
 unfolding set_up made
-set_up_done g y a v s m v₁ s₁ m₁ p z e q =
+set_up_done g y v s m v₁ s₁ m₁ z e q =
     ap {B = Done} (λ (w : Recorder). record { answer = 0; carried = 0; after = record { recorder = w; store = store v₁ s₁ m₁ } }) q
     ∙ ap {B = Done} (λ (w : Store). record { answer = 0; carried = 0; after = record { recorder = fresh g; store = w } }) e
-    ∙ rw (← p, z)
+    ∙ rw (← z)
 
 module _ (g : SetUp) (cap : ℕ) (u : RegisterUnits) (a : cap ≡ days_of g.class) (b : u ≡ reading_of g.total) where
   pub store_goes : (x : Store) → Begins g x → Goes cap (g.time / seconds_of_half) u x

@@ -1,5 +1,5 @@
 -- What the functions below the entries ask of a recorder and its store: each is proved to hold wherever they are called, and no entry asks anything.
-use Rattle.std.specs.Prelude.{ℕ, ◌/◌, ◌<◌, ◌≤◌, Bool, true, false, cond, List}
+use Rattle.std.specs.Prelude.{ℕ, ◌/◌, ◌<◌, ◌≤◌, Bool, true, false, Option, Some, None, cond, List}
 use Rattle.quantity.specs.Units.{total_round}
 use Rattle.registers.specs.Demand.{count_round}
 use Rattle.registers.specs.Shift.{shifted}
@@ -7,8 +7,6 @@ use Rattle.calendar.specs.Clock.{seconds_of_half, times_in_all}
 use Rattle.store.specs.Class.{days_of}
 use Rattle.store.specs.Store.{Store, Fits, Words}
 use Rattle.recorder.specs.declared.SetUp.{SetUp}
-use Rattle.recorder.specs.declared.step.Told.{Told}
-use Rattle.recorder.specs.declared.step.Told.TheVariants.{Is, Not}
 use Rattle.recorder.specs.Recorder.{Recorder, Mem, Event, Count, Clock, Off, On, Access, Meter, Reset, Rate, Reverse, Ppp, Adjust, cap_of, half_of}
 use Rattle.recorder.specs.Boundary.{advance_to}
 use Rattle.recorder.specs.Effect.{accessed, turned_on}
@@ -36,18 +34,18 @@ pub record Flaggable (r : Recorder) (m : List ℕ) : Type 0 where
   pub words : Words (cap_of r) m
 
 -- the time that an event tells, and whether it marks the half-hour that runs before
-abbrev pub time_in : ℕ → Event → Told
-time_in now (Count c) = Not
-time_in now (Clock t) = Is t false
-time_in now Off = Not
-time_in now (On t) = Is t false
-time_in now Access = Not
-time_in now (Meter c) = Not
-time_in now Reset = Not
-time_in now (Rate n) = Not
-time_in now Reverse = Not
-time_in now (Ppp a b c) = Not
-time_in now (Adjust h) = Is (shifted now h) true
+abbrev pub time_in : ℕ → Event → Option (ℕ × Bool)
+time_in now (Count c) = None
+time_in now (Clock t) = Some (t, false)
+time_in now Off = None
+time_in now (On t) = Some (t, false)
+time_in now Access = None
+time_in now (Meter c) = None
+time_in now Reset = None
+time_in now (Rate n) = None
+time_in now Reverse = None
+time_in now (Ppp a b c) = None
+time_in now (Adjust h) = Some (shifted now h, true)
 
 -- the recorder as it is before time goes on; what is done then, On alone while power is off
 abbrev pub marked_if : Bool → Recorder → Recorder

@@ -8,7 +8,8 @@ use Rattle.registers.specs.declared.Present.{Present}
 use Rattle.registers.specs.declared.Running.{Running}
 use Rattle.calendar.specs.Clock.{seconds_of_day, seconds_of_half}
 use Rattle.store.specs.Class.{days_of}
-use Rattle.store.specs.Store.{Store, store}
+use Rattle.store.specs.declared.Days.{Days}
+use Rattle.store.specs.Store.{Store, store, store_of}
 pub use Rattle.recorder.specs.declared.Identity.{Identity}
 pub use Rattle.recorder.specs.declared.Recorder.{Recorder}
 pub use Rattle.recorder.specs.declared.Event.{Event}
@@ -20,6 +21,10 @@ pub record Mem : Type 0 where
 
 abbrev pub mem : Recorder → List ℕ → List ℕ → List ℕ → Mem
 mem r v s m = record { recorder = r; store = store v s m }
+
+-- with the days that are lent
+abbrev pub mem_of : Recorder → Days → Mem
+mem_of r d = record { recorder = r; store = store_of d }
 
 abbrev pub with : Mem → Recorder → Mem
 with x r = record { recorder = r; store = x.store }

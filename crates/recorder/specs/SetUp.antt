@@ -1,6 +1,8 @@
 -- Set-up (docs/RULES.md, "Set-up"): power is on, rate 1 is active, rate registers, demands and reset count are zero, there was no reset; the first day is stored.
 -- A value out of range is 6, and that before a store of another length, 4. A refused set-up returns one fixed blank recorder, and leaves the store.
-use Rattle.std.specs.Prelude.{ℕ, ◌/◌, Bool, true, false, not, cond, List, [], ◌∷◌, ltb, leb, eqb, length, replicate}
+use Rattle.std.specs.Prelude.{ℕ, Result, Ok, Err, ◌/◌, Bool, true, false, not, cond, List, [], ◌∷◌, ltb, leb, eqb, length, replicate}
+use Rattle.answers.specs.declared.Refusal.{Refusal}
+use Rattle.answers.specs.Answer.{number_of, carried_of}
 use Rattle.format.specs.Identifier.{ident_length, ident_ok}
 use Rattle.laws.specs.Checks.{Check, check, first_failing}
 use Rattle.laws.specs.Tests.{all_true}
@@ -17,7 +19,7 @@ use Rattle.store.specs.Begun.{begun}
 use Rattle.store.specs.Class.{days_of, right_lengths}
 use Rattle.store.specs.Store.{Store}
 use Rattle.recorder.specs.declared.SetUp.{SetUp}
-use Rattle.recorder.specs.Recorder.{Identity, Recorder, Mem}
+use Rattle.recorder.specs.Recorder.{Identity, Recorder, Mem, mem}
 use Rattle.recorder.specs.Step.{Done}
 
 abbrev pub given : List ℕ → Class → MilliwattHours → ℕ → MilliwattHours → ℕ → SetUp

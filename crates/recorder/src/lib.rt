@@ -1,21 +1,23 @@
-// The recorder of one circuit, by value, over a store of days that it is lent: its fields, their ranges, and what an event is answered. A call hands back the recorder, the answer
-// number and what it carries; a refusal leaves recorder and store as they were.
+// The recorder of one circuit over a store of days that it is lent: its fields, their ranges, and what an event is answered. A refusal leaves recorder and store as they were.
+// The entries take the store's three slices one by one, as C lends them; inside they are one value, `Days`.
 #![tactic(auto)]
 
-ghost use Rattle.std.specs.Prelude.{◌≡◌, not, cond, ◌<◌, ◌≤◌, ltb};
+ghost use Rattle.std.specs.Prelude.{◌≡◌, ◌<◌, ◌≤◌};
 ghost use Rattle.laws.specs.Tests.{all_true};
+ghost use Rattle.answers.specs.Answer.{judged_as};
 ghost use Rattle.calendar.specs.Clock.{times_in_all};
-ghost use Rattle.format.specs.Identifier.{ident_ok, ppp_ok};
-ghost use Rattle.registers.specs.Energy.{Countable, rate_ok};
-ghost use Rattle.registers.specs.Shift.{too_far, early, late};
+ghost use Rattle.format.specs.Identifier.{ident_ok};
+ghost use Rattle.registers.specs.Energy.{Countable};
 ghost use Rattle.store.specs.Class.{most_days};
 ghost use Rattle.recorder.specs.Recorder.{cap_of};
 ghost use Rattle.recorder.specs.Range.{identity_tests, register_tests, in_range};
-ghost use Rattle.recorder.specs.Answer.{in_time, most_units, units_after, event_answer, answer_with};
+ghost use Rattle.recorder.specs.Answer.{wrong_power, bad_value, too_early, bad_time, too_much, units_after, event_answer, answer_with};
+ghost use Rattle.recorder.specs.Step.{carried_by};
 
 mod set_up;
 mod step;
 
+use answers::Refusal;
 use quantity::MilliwattHours;
 use registers::{Demand, Energy, Present, Running, Shift};
 use store::Class;
@@ -36,7 +38,7 @@ pub struct Recorder {
     pub running: Running,
 }
 
-#[derive(Clone, Copy)]
+#[derive(Clone, Copy, PartialEq, Eq, Debug)]
 pub enum Event {
     Count(u32),
     Clock(u64),
@@ -49,14 +51,6 @@ pub enum Event {
     Reverse,
     Ppp(u8, u8, u8),
     Adjust(Shift),
-}
-
-// What set-up, an event and a read hand back.
-#[derive(Clone, Copy)]
-pub struct Stepped {
-    pub recorder: Recorder,
-    pub answer: u32,
-    pub carried: u32,
 }
 
 // What a recorder is set up with.
@@ -82,8 +76,7 @@ impl Identity {
     fn in_range(self) -> bool
         ensures { result ≡ all_true (identity_tests self) }
     {
-        let id = self.identifier;
-        identifier_ok(id) & registers::weight_ok(self.weight)
+        identifier_ok(self.identifier) & registers::weight_ok(self.weight)
     }
 }
 
@@ -97,71 +90,49 @@ fn registers_ok(cap: u32, clock: Present, energy: Energy, demand: Demand, runnin
         & (running.base.0 < quantity::READING_ROUND)
 }
 
-// The number where the test fails, else what comes next.
-fn first_of(fails: bool, number: u32, next: u32) -> u32
-    ensures { result ≡ cond fails number next }
-{
-    if fails { number } else { next }
-}
+// What an event is refused for, of a recorder that is good.
+impl Event {
+    // On asks that power is off, any other that it is on.
+    #[tactic(auto, unfolding(crate::specs::Cause::wrong_power))]
+    fn wrong_power(self, on: bool) -> bool
+        ensures { result ≡ wrong_power on self }
+    {
+        match self {
+            Event::On(_) => on,
+            _ => !on,
+        }
+    }
 
-// The answers that power, a time, a rate, a PPP and an adjust give.
-fn power_answer(wrong: bool) -> u32
-    ensures { result ≡ cond wrong 1 0 }
-{
-    first_of(wrong, answers::POWER, answers::DONE)
-}
+    fn bad_value(self) -> bool
+        ensures { result ≡ bad_value self }
+    {
+        match self {
+            Event::Rate(n) => !registers::rate_ok(n),
+            Event::Ppp(a, b, c) => !format::ppp_ok(a, b, c),
+            Event::Adjust(h) => h.too_far(),
+            _ => false,
+        }
+    }
 
-fn time_answer(wrong: bool, now: u64, t: u64) -> u32
-    ensures { result ≡ cond wrong 1 (cond (not (in_time now t)) 2 0) }
-{
-    first_of(
-        wrong,
-        answers::POWER,
-        first_of(
-            !((now <= t) & (t < calendar::TIMES_IN_ALL)),
-            answers::TIME,
-            answers::DONE,
-        ),
-    )
-}
+    fn too_early(self, now: u64) -> bool
+        ensures { result ≡ too_early now self }
+    {
+        match self {
+            Event::Adjust(h) => h.early(now),
+            _ => false,
+        }
+    }
 
-fn rate_answer(wrong: bool, n: u32) -> u32
-    ensures { result ≡ cond wrong 1 (cond (not (rate_ok n)) 6 0) }
-{
-    first_of(
-        wrong,
-        answers::POWER,
-        first_of(!registers::rate_ok(n), answers::RANGE, answers::DONE),
-    )
-}
-
-fn ppp_answer(wrong: bool, a: u8, b: u8, c: u8) -> u32
-    ensures { result ≡ cond wrong 1 (cond (not (ppp_ok a b c)) 6 0) }
-{
-    first_of(
-        wrong,
-        answers::POWER,
-        first_of(!format::ppp_ok(a, b, c), answers::RANGE, answers::DONE),
-    )
-}
-
-fn shift_answer(wrong: bool, now: u64, h: Shift) -> u32
-    requires { now < times_in_all }
-    ensures { result ≡ cond wrong 1 (cond (too_far h) 6 (cond (early now h) 13 (cond (late now h) 2 0))) }
-{
-    first_of(
-        wrong,
-        answers::POWER,
-        first_of(
-            h.too_far(),
-            answers::RANGE,
-            first_of(
-                h.early(now),
-                answers::ENDED,
-                first_of(h.late(now), answers::TIME, answers::DONE),
-            ),
-        ),
-    )
+    fn bad_time(self, now: u64) -> bool
+        requires { now < times_in_all }
+        ensures { result ≡ bad_time now self }
+    {
+        match self {
+            Event::Clock(t) | Event::On(t) => (t < now) | (calendar::TIMES_IN_ALL <= t),
+            Event::Adjust(h) => h.late(now),
+            _ => false,
+        }
+    }
 }
 
 impl Recorder {
@@ -169,16 +140,13 @@ impl Recorder {
     pub fn cap(self) -> u32
         ensures { (result ≡ cap_of self) × (result ≤ most_days) }
     {
-        let identity = self.identity;
-        let class = identity.class;
-        class.days()
+        self.identity.class.days()
     }
 
     pub fn in_range(self) -> bool
         ensures { result ≡ in_range self }
     {
-        let identity = self.identity;
-        identity.in_range()
+        self.identity.in_range()
             & registers_ok(
                 self.cap(),
                 self.clock,
@@ -187,61 +155,66 @@ impl Recorder {
                 self.running,
             )
     }
-    // A Count's answer.
-    fn count_answer(self, c: u32) -> u32
+
+    // Whether a Count would give the running half-hour too many units.
+    fn too_much(self, event: Event) -> bool
         requires { Countable self.identity.weight self.energy }
-        ensures { result ≡ cond (not self.clock.on) 1 (cond (ltb most_units (units_after self c)) 3 0) }
+        ensures { result ≡ too_much (units_after self) event }
     {
-        let identity = self.identity;
-        let running = self.running;
-        let energy = self.energy;
-        let units = energy.units_with(identity.weight, running.base, c);
-        first_of(
-            !self.clock.on,
-            answers::POWER,
-            first_of(MOST_UNITS < units.0, answers::UNITS, answers::DONE),
-        )
+        match event {
+            Event::Count(c) => {
+                let units = self
+                    .energy
+                    .units_with(self.identity.weight, self.running.base, c);
+                MOST_UNITS < units.0
+            }
+            _ => false,
+        }
     }
 
     // The answer to an event, of a recorder in range with a store of its lengths.
-    fn event_answer(self, event: Event) -> u32
+    #[tactic(auto, unfolding(crate::specs::Answer::event_answer))]
+    fn event_answer(self, event: Event) -> Result<(), Refusal>
         requires { Countable self.identity.weight self.energy × (self.clock.time < times_in_all) }
-        ensures { result ≡ event_answer self.clock.on self.clock.time (units_after self) event }
+        ensures judged { judged_as result ≡ event_answer self.clock.on self.clock.time (units_after self) event }
+        ensures bare { carried_by result ≡ 0 }
     {
-        let on = self.clock.on;
         let now = self.clock.time;
-        match event {
-            Event::Count(c) => self.count_answer(c),
-            Event::Clock(t) => time_answer(!on, now, t),
-            Event::Off => power_answer(!on),
-            Event::On(t) => time_answer(on, now, t),
-            Event::Access => power_answer(!on),
-            Event::Meter(_) => power_answer(!on),
-            Event::Reset => power_answer(!on),
-            Event::Rate(n) => rate_answer(!on, n),
-            Event::Reverse => power_answer(!on),
-            Event::Ppp(a, b, c) => ppp_answer(!on, a, b, c),
-            Event::Adjust(h) => shift_answer(!on, now, h),
+        if event.wrong_power(self.clock.on) {
+            return Err(Refusal::Power);
         }
+        if event.bad_value() {
+            return Err(Refusal::Range);
+        }
+        if event.too_early(now) {
+            return Err(Refusal::Ended);
+        }
+        if event.bad_time(now) {
+            return Err(Refusal::Time);
+        }
+        if self.too_much(event) {
+            return Err(Refusal::Units);
+        }
+        Ok(())
     }
 
     // The answer to an event, with a store of these lengths.
-    fn answer(self, event: Event, values: usize, starts: usize, marks: usize) -> u32
-        ensures { result ≡ answer_with self event values starts marks }
+    fn answer(self, event: Event, values: usize, starts: usize, marks: usize) -> Result<(), Refusal>
+        ensures judged { judged_as result ≡ answer_with self event values starts marks }
+        ensures bare { carried_by result ≡ 0 }
     {
-        let identity = self.identity;
-        let class = identity.class;
-        let cap = class.days();
+        let cap = self.cap();
         if cap == 0 {
-            return answers::DAMAGED;
+            return Err(Refusal::Damaged);
         }
-        if !class.fits(values, starts, marks) {
-            return answers::LENGTH;
+        if !self.identity.class.fits(values, starts, marks) {
+            return Err(Refusal::Length);
         }
-        let good = identity.in_range()
+        // By `in_range`, which others call too, the judging stays out of the loop that steps, and a Count takes three times as long.
+        let good = self.identity.in_range()
             & registers_ok(cap, self.clock, self.energy, self.demand, self.running);
         if !good {
-            return answers::DAMAGED;
+            return Err(Refusal::Damaged);
         }
         self.event_answer(event)
     }

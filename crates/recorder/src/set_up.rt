@@ -2,59 +2,66 @@
 ghost use Rattle.std.specs.Prelude.{◌≡◌};
 ghost use Rattle.laws.specs.Tests.{all_true};
 ghost use Rattle.store.specs.Store.{store};
+ghost use Rattle.answers.specs.Answer.{judged_as};
+ghost use Rattle.recorder.specs.Step.{carried_by};
+ghost use Rattle.recorder.specs.SetUp.{set_up_tests, set_up_with, started, fresh, store_begun, blank, set_up};
 ghost use Rattle.recorder.specs.Step.{done};
-ghost use Rattle.recorder.specs.SetUp.{given, set_up_tests, set_up_with, started, fresh, store_begun, blank, set_up};
 ghost use Rattle.recorder.specs.Needs.{Begins};
 
-use crate::{Identity, Recorder, SetUp, Stepped, identifier_ok};
+use crate::{Identity, Recorder, SetUp, identifier_ok};
+use answers::Refusal;
 use quantity::MilliwattHours;
 use registers::{Demand, Energy, Present};
-use store::Class;
+use store::{Class, Days};
 
 impl SetUp {
     fn in_range(self) -> bool
         ensures { result ≡ all_true (set_up_tests self) }
     {
-        let id = self.identifier;
-        let class = self.class;
-        identifier_ok(id)
-            & (1 <= class.days())
+        identifier_ok(self.identifier)
+            & (1 <= self.class.days())
             & registers::weight_ok(self.weight)
             & (self.time < calendar::TIMES_IN_ALL)
             & (self.total.0 < quantity::TOTAL_ROUND)
     }
 
     // What a set-up with a store of these lengths is answered.
-    pub fn answer(self, values: usize, starts: usize, marks: usize) -> u32
-        ensures { result ≡ set_up_with self values starts marks }
+    pub fn answer(self, values: usize, starts: usize, marks: usize) -> Result<(), Refusal>
+        ensures judged { judged_as result ≡ set_up_with self values starts marks }
+        ensures bare { carried_by result ≡ 0 }
     {
-        let class = self.class;
         if !self.in_range() {
-            return answers::RANGE;
+            return Err(Refusal::Range);
         }
-        if !class.fits(values, starts, marks) {
-            return answers::LENGTH;
+        if !self.class.fits(values, starts, marks) {
+            return Err(Refusal::Length);
         }
-        answers::DONE
+        Ok(())
     }
 
+    #[tactic(auto, unfolding(crate::specs::SetUp::fresh))]
     fn fresh(self) -> Recorder
         ensures { result ≡ fresh self }
     {
-        let id = self.identifier;
-        let class = self.class;
-        let weight = self.weight;
+        let SetUp {
+            identifier,
+            class,
+            weight,
+            time,
+            total,
+            counter,
+        } = self;
         let identity = Identity {
-            identifier: id,
-            class: class,
-            weight: weight,
+            identifier,
+            class,
+            weight,
         };
         let clock = Present {
-            time: self.time,
+            time,
             on: true,
             days: 1,
         };
-        Recorder::started(identity, clock, Energy::from(self.total, self.counter, 1))
+        Recorder::started(identity, clock, Energy::from(total, counter, 1))
     }
 
     // The store as it begins.
@@ -62,68 +69,52 @@ impl SetUp {
         requires { Begins self (store values.old starts.old marks.old) }
         ensures { store values.new starts.new marks.new ≡ store_begun self }
     {
-        let class = self.class;
         let q = (self.time / calendar::SECONDS_OF_HALF) as u32;
-        store::begin(class.days(), q, self.total.reading(), values, starts, marks);
+        let mut days = Days {
+            values,
+            starts,
+            marks,
+        };
+        days.begin(self.class.days(), q, self.total.reading());
     }
 }
 
 impl Recorder {
     // A recorder that begins with these.
+    #[tactic(auto, unfolding(crate::specs::SetUp::started))]
     fn started(identity: Identity, clock: Present, energy: Energy) -> Recorder
         ensures { result ≡ started identity clock energy }
     {
-        let demand = Demand::none();
-        let running = energy.begun();
         Recorder {
-            identity: identity,
-            clock: clock,
-            energy: energy,
-            demand: demand,
-            running: running,
+            identity,
+            clock,
+            energy,
+            demand: Demand::none(),
+            running: energy.begun(),
         }
     }
 
-    // A recorder set up, with the answer.
+    // A recorder set up, beside the answer; a refusal hands back the blank recorder and leaves the store as it was.
     pub fn set_up(
-        identifier: [u8; 12],
-        class: Class,
-        weight: MilliwattHours,
-        time: u64,
-        total: MilliwattHours,
-        counter: u32,
+        given: SetUp,
         values: &mut [u16],
         starts: &mut [u32],
         marks: &mut [u64],
-    ) -> Stepped
-        ensures { done result values.new starts.new marks.new
-            ≡ set_up (given identifier class weight time total counter) (store values.old starts.old marks.old) }
+    ) -> (Recorder, Result<(), Refusal>)
+        ensures { done result.1 result.0 values.new starts.new marks.new
+            ≡ set_up given (store values.old starts.old marks.old) }
     {
-        let given = SetUp {
-            identifier: identifier,
-            class: class,
-            weight: weight,
-            time: time,
-            total: total,
-            counter: counter,
-        };
-        let answer = given.answer(values.len(), starts.len(), marks.len());
-        if answer != answers::DONE {
-            return Stepped {
-                recorder: Recorder::blank(),
-                answer: answer,
-                carried: 0,
-            };
-        }
-        given.begin(values, starts, marks);
-        Stepped {
-            recorder: given.fresh(),
-            answer: answers::DONE,
-            carried: 0,
+        match given.answer(values.len(), starts.len(), marks.len()) {
+            Ok(()) => {
+                given.begin(values, starts, marks);
+                (given.fresh(), Ok(()))
+            }
+            Err(refusal) => (Recorder::blank(), Err(refusal)),
         }
     }
 
     // The recorder that a refused set-up hands back: no class, and zeros.
+    #[tactic(auto, unfolding(crate::specs::SetUp::blank))]
     pub fn blank() -> Recorder
         ensures { result ≡ blank }
     {

@@ -1,15 +1,11 @@
--- Pulses as a wrapping difference, what a count can come to and what it does; each law concludes what a proof of the code looks for.
+-- What a count can come to and what it does; each law concludes what a proof of the code looks for.
 -- Assumes nothing.
-use Rattle.std.proofs.Common.{◌≡◌, ℕ, ◌+◌, ◌-◌, ◌*◌, ◌%◌, ◌^◌, ◌<◌, ◌≤◌, get_or, set, ap, mul-le-mul, arith, w64, Fits}
+use Rattle.std.proofs.Common.{◌≡◌, ℕ, ◌+◌, ◌-◌, ◌*◌, ◌^◌, ◌<◌, ◌≤◌, get_or, set, ap, mul-le-mul, arith, w64, Fits}
 use Rattle.quantity.specs.declared.RegisterUnits.{RegisterUnits}
 use Rattle.quantity.specs.declared.MilliwattHours.{MilliwattHours}
 use Rattle.quantity.specs.Units.{milliwatt_hours, units, reading_of, reading_gap, energy_sum}
 use Rattle.registers.specs.declared.Energy.{Energy}
-use Rattle.registers.specs.Energy.{Countable, no_energy, most_weight, most_pulses, most_added, pulses_of, added_of, units_with, energy_counted}
-
--- a difference that runs round at 2^32 is the difference modulo 2^32
-pub wrapped : (c last p : ℕ) → c < 2 ^ 32 → last < 2 ^ 32 → p < 2 ^ 32 → (p + last) % 2 ^ 32 ≡ c → p ≡ pulses_of last c
-wrapped c last p hc hl hp e = omega arith
+use Rattle.registers.specs.Energy.{Countable, no_energy, most_weight, most_pulses, most_added, added_of, units_with, energy_counted}
 
 pub added_few : (w : MilliwattHours) (e : Energy) (p : ℕ) → Countable w e → p < 2 ^ 32 → p * w.0 ≤ most_added
 added_few w e p g h = mul-le-mul {n₂ = most_pulses} {m₂ = most_weight} (omega arith) g.weight

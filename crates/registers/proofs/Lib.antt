@@ -1,3 +1,2 @@
 -- Laws of the registers.
 pub mod Laws
-pub mod Shifts

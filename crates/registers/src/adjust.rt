@@ -8,22 +8,21 @@ use crate::Shift;
 const FARTHEST: u32 = 900;
 
 impl Shift {
-    // Seconds ahead, or back where the number is negative.
+    // Seconds ahead, or back where the number is negative. No `From`: docs/PROMISES.md lists it as an entry point, which an impl of a trait is not.
     pub fn of(n: i32) -> Shift
         ensures { result ≡ shift_of n }
     {
         if n < 0 {
-            return Shift::Back((-1 - n) as u32 + 1);
+            return Shift::Back(n.unsigned_abs());
         }
-        Shift::Ahead(n as u32)
+        Shift::Ahead(n.unsigned_abs())
     }
 
     pub fn too_far(self) -> bool
         ensures { result ≡ too_far self }
     {
         match self {
-            Shift::Ahead(n) => FARTHEST < n,
-            Shift::Back(n) => FARTHEST < n,
+            Shift::Ahead(n) | Shift::Back(n) => FARTHEST < n,
         }
     }
 

@@ -1,10 +1,10 @@
 // The recorder's fields in their groups, each by value: the present, the running half-hour, energy and demand; and by how much the present is adjusted.
 #![tactic(auto)]
 
-ghost use Rattle.std.specs.Prelude.{◌≡◌, ◌/◌, ◌<◌, ◌≤◌, min};
+ghost use Rattle.std.specs.Prelude.{◌≡◌, ◌/◌, ◌<◌, ◌≤◌};
 ghost use Rattle.quantity.specs.Units.{units, reading_of};
 ghost use Rattle.registers.specs.Energy.{Countable, running_from, energy_from, demand_since, weight_ok, rate_ok, rates_ok, energy_ok, pulses_of, added_of, most_added, units_with, energy_counted};
-ghost use Rattle.registers.specs.Demand.{Resettable, demand_ok, larger, demand_closed, demand_reset, no_demand};
+ghost use Rattle.registers.specs.Demand.{Resettable, demand_ok, demand_closed, demand_reset, no_demand};
 ghost use Rattle.registers.specs.Present.{Later, present_ok, present_at};
 ghost use Rattle.calendar.specs.Calendar.{days_in_all};
 ghost use Rattle.calendar.specs.Clock.{seconds_of_day, seconds_of_half, times_in_all};
@@ -15,7 +15,7 @@ mod adjust;
 use quantity::{CentiKilowatts, MilliwattHours, RegisterUnits};
 
 // The present time, whether power is on, and the days stored.
-#[derive(Clone, Copy)]
+#[derive(Clone, Copy, PartialEq, Eq, Debug)]
 pub struct Present {
     pub time: u64,
     pub on: bool,
@@ -48,7 +48,7 @@ pub struct Demand {
 }
 
 // By how many seconds the clock is adjusted.
-#[derive(Clone, Copy)]
+#[derive(Clone, Copy, PartialEq, Eq, Debug)]
 pub enum Shift {
     Ahead(u32),
     Back(u32),
@@ -62,12 +62,6 @@ pub const RATES: u32 = 8;
 
 const COUNT_ROUND: u32 = 100;
 
-fn smaller(a: u32, b: u32) -> u32
-    ensures { result ≡ min a b }
-{
-    if a < b { a } else { b }
-}
-
 impl Present {
     pub fn in_range(self, cap: u32) -> bool
         ensures { result ≡ present_ok cap self }
@@ -78,7 +72,7 @@ impl Present {
             & ((self.days as u64) <= self.time / calendar::SECONDS_OF_DAY + 1)
     }
 
-    // The numbers of today and of the running half-hour.
+    // The numbers of today and of the running half-hour: two constants and two bounds, for which one function over both would ask its callers.
     pub fn today(self) -> u32
         requires { self.time < times_in_all }
         ensures { (result ≡ self.time / seconds_of_day) × (result < days_in_all) }
@@ -100,7 +94,7 @@ impl Present {
     {
         let midnights = (t / calendar::SECONDS_OF_DAY
             - self.time / calendar::SECONDS_OF_DAY) as u32;
-        self.days = smaller(cap, self.days + midnights);
+        self.days = cap.min(self.days + midnights);
         self.time = t;
         self.on = true;
         self
@@ -124,28 +118,20 @@ pub fn rate_ok(n: u32) -> bool
 fn pulses(last: u32, c: u32) -> u32
     ensures { result ≡ pulses_of last c }
 {
-    std::num::wrapping_sub_u32(c, last)
+    c.wrapping_sub(last)
 }
 
 fn rates_ok(rates: [MilliwattHours; 8]) -> bool
     ensures { result ≡ rates_ok rates }
 {
-    let mut i = 0;
-    while i < 8 {
-        if !(rates[i].0 < quantity::TOTAL_ROUND) {
-            return false;
-        }
-        i += 1;
-    }
-    true
+    rates.iter().all(|r| r.0 < quantity::TOTAL_ROUND)
 }
 
 impl Energy {
     pub fn in_range(self) -> bool
         ensures { result ≡ energy_ok self }
     {
-        let rates = self.rates;
-        (self.total.0 < quantity::TOTAL_ROUND) & rate_ok(self.rate) & rates_ok(rates)
+        (self.total.0 < quantity::TOTAL_ROUND) & rate_ok(self.rate) & rates_ok(self.rates)
     }
 
     // Registers that begin at a total.
@@ -153,9 +139,9 @@ impl Energy {
         ensures { result ≡ energy_from total last rate }
     {
         Energy {
-            total: total,
-            last: last,
-            rate: rate,
+            total,
+            last,
+            rate,
             rates: [MilliwattHours(0); 8],
         }
     }
@@ -164,9 +150,8 @@ impl Energy {
     pub fn begun(self) -> Running
         ensures { result ≡ running_from (reading_of self.total) }
     {
-        let base = self.total.reading();
         Running {
-            base: base,
+            base: self.total.reading(),
             reverse: false,
             level2: false,
         }
@@ -176,10 +161,8 @@ impl Energy {
     fn demand_since(self, base: RegisterUnits) -> CentiKilowatts
         ensures { result ≡ demand_since base self }
     {
-        let reading = self.total.reading();
-        let value = reading.last_four();
-        let before = base.last_four();
-        value.advance_from(before).demand()
+        let value = self.total.reading().last_four();
+        value.advance_from(base.last_four()).demand()
     }
 
     // The energy of the pulses since the last count.
@@ -195,13 +178,10 @@ impl Energy {
         requires { Countable weight self }
         ensures { result ≡ units (units_with weight base c self) }
     {
-        let total = self.total;
         let added = self.added(weight, c);
-        let reading = total.reading();
-        let passed = reading.gap_from(base);
-        let sum = MilliwattHours(total.0 + added.0);
-        let then = sum.reading();
-        RegisterUnits(passed.0 + (then.0 - reading.0))
+        let reading = self.total.reading();
+        let then = MilliwattHours(self.total.0 + added.0).reading();
+        RegisterUnits(reading.gap_from(base).0 + (then.0 - reading.0))
     }
 
     // Count(c).
@@ -211,19 +191,11 @@ impl Energy {
     {
         let added = self.added(weight, c);
         let at = (self.rate - 1) as usize;
-        let total = self.total;
-        let register = self.rates[at];
-        self.total = total.plus(added);
+        self.total = self.total.plus(added);
         self.last = c;
-        self.rates[at] = register.plus(added);
+        self.rates[at] = self.rates[at].plus(added);
         self
     }
-}
-
-fn larger(a: CentiKilowatts, b: CentiKilowatts) -> CentiKilowatts
-    ensures { result ≡ larger a b }
-{
-    if a.0 < b.0 { b } else { a }
 }
 
 impl Demand {
@@ -253,9 +225,8 @@ impl Demand {
     pub fn closed(mut self, energy: Energy, running: Running) -> Demand
         ensures { result ≡ demand_closed energy running self }
     {
-        let current = self.current;
         let demand = energy.demand_since(running.base);
-        self.current = larger(current, demand);
+        self.current.0 = self.current.0.max(demand.0);
         self
     }
 
@@ -264,10 +235,8 @@ impl Demand {
         requires { Resettable day self }
         ensures { result ≡ demand_reset day self }
     {
-        let current = self.current;
-        let cumulative = self.cumulative;
-        self.previous = current;
-        self.cumulative = cumulative.plus(current);
+        self.previous = self.current;
+        self.cumulative = self.cumulative.plus(self.current);
         self.current.0 = 0;
         self.reset = day + 1;
         self.count = (self.count + 1) % COUNT_ROUND;

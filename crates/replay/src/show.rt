@@ -1,144 +1,100 @@
-// What a line shows and does not change: a recorder and a room of its store in decimal, a block, the ledger, a switching table.
-use memory::{Blocks, Ledger, Lent, Marks, Row, Starts, Table, Values};
-use script::{Said, names};
+// What a line shows and does not change: a recorder and a room of its store in decimal, a block, the ledger, a switching table. A line is understood where what it shows
+// is there.
+use commands::Shown;
+use memory::{Memory, Outstation};
+use std::io::{self, Write};
 
-// How many numbers are behind the class, the last of them whether a table is loaded; the phases are behind those.
-const BEHIND: usize = station::LOADED + 1 - rows::WEIGHT;
+// ---- the outstation's row but for its letters; and its phases, of which the last number tells whether it is one
 
-fn phases(row: &Row) -> u64 {
-    if memory::number(row, station::SINGLE) == 1 {
-        1
-    } else {
-        3
-    }
-}
-
-// The outstation's row but for its letters.
-fn recorder(row: &Row) -> bool {
-    printed::number(memory::number(row, rows::CLASS));
-    printed::then_all(parts::part64(row, rows::WEIGHT, BEHIND));
-    printed::then(phases(row));
-    printed::end()
+fn recorder<W: Write>(outstation: &Outstation, out: &mut W) -> io::Result<()> {
+    let row = &outstation.row;
+    let phases = if row[station::SINGLE] == 1 { 1 } else { 3 };
+    write!(out, "{}", row[rows::CLASS])?;
+    printed::then_all(out, &row[rows::WEIGHT..station::SINGLE])?;
+    writeln!(out, " {phases}")
 }
 
 // ---- a room of the store
 
-fn start(starts: &Starts, d: usize) -> u32 {
-    if d < memory::ALL_STARTS { starts[d] } else { 0 }
+// The room of a day: none where there are none, or it does not lie in the store as it is lent.
+fn room_of(day: u32, outstation: &Outstation) -> Option<usize> {
+    let room = day.checked_rem(outstation.class().days())? as usize;
+    let lent = outstation.lent.lengths();
+    let is_lent = room < lent.values / block::HALVES
+        && room < lent.starts
+        && room < lent.marks / marks::DAY_WORDS;
+    if is_lent { Some(room) } else { None }
 }
 
 // Its start, its flags, its two words of marks, its values.
-fn room(room: u64, values: &Values, starts: &Starts, marks: &Marks) -> bool {
-    let d = room as usize % memory::STORE_DAYS;
-    let words = parts::part64(marks, marks::DAY_WORDS * d, marks::DAY_WORDS);
-    printed::number(start(starts, d) as u64);
-    printed::then(parts::number(words, marks::FLAGS_WORD));
-    printed::then_all(parts::part64(words, 0, marks::FLAGS_WORD));
-    printed::then_halves(parts::part16(values, block::HALVES * d, block::HALVES));
-    printed::end()
+fn room<W: Write>(room: usize, outstation: &Outstation, out: &mut W) -> io::Result<()> {
+    let d = room % memory::STORE_DAYS;
+    let words = &outstation.marks[marks::DAY_WORDS * d..marks::DAY_WORDS * d + marks::DAY_WORDS];
+    let values = &outstation.values[block::HALVES * d..block::HALVES * d + block::HALVES];
+    write!(out, "{} {}", outstation.starts[d], words[marks::FLAGS_WORD])?;
+    printed::then_all(out, &words[..marks::FLAGS_WORD])?;
+    printed::then_all(out, values)?;
+    writeln!(out)
 }
 
-// The room of a day among so many; none has so large a number where there are none.
-fn room_of(day: u64, days: u32) -> u64 {
-    if days == 0 {
-        return memory::STORE_DAYS as u64;
-    }
-    day % days as u64
+fn day<W: Write>(day: u32, outstation: &Outstation, out: &mut W) -> io::Result<bool> {
+    let Some(room) = room_of(day, outstation) else {
+        return Ok(false);
+    };
+    self::room(room, outstation, out)?;
+    Ok(true)
 }
 
-// Whether a room lies in the store as it is lent.
-fn is_lent(room: u64, lent: Lent) -> bool {
-    (room < lent.values as u64 / block::HALVES as u64)
-        & (room < lent.starts as u64)
-        & (room < lent.marks as u64 / marks::DAY_WORDS as u64)
-}
+// ---- the ledger
 
-// The room of a day, as it lies in the store.
-pub fn day(day: u64, row: &Row, values: &Values, starts: &Starts, marks: &Marks) -> bool {
-    let class = rows::class_numbered(memory::number(row, rows::CLASS));
-    let room = room_of(day, class.days());
-    if !is_lent(room, memory::lent_store(row)) {
-        return false;
-    }
-    self::room(room, values, starts, marks)
-}
-
-// ---- a block, the ledger
-
-fn of_block(name: u64, block: &[u8]) -> bool {
-    match name {
-        names::BLOCK => printed::hex(block),
-        names::CHECK => printed::answer(desk::cop6_read(block)),
-        _ => printed::listing(block),
-    }
-}
-
-fn summary(ledger: &[u8], day: u32) -> bool {
+fn summary<W: Write>(ledger: &[u8], day: u32, out: &mut W) -> io::Result<()> {
     let mut numbers = [0u64; desk::SUMMARY];
     let answer = desk::cop6_summary(ledger, day, &mut numbers);
-    printed::number(answer / desk::ANSWER);
-    printed::then_all(&numbers);
-    printed::end()
+    write!(out, "{}", answer / desk::ANSWER)?;
+    printed::then_all(out, &numbers)?;
+    writeln!(out)
 }
 
-fn missing(ledger: &[u8], day: u32) -> bool {
-    let m = ledger::missing(ledger, day);
-    printed::number(m.answer as u64);
-    printed::then(m.first as u64);
-    printed::then(m.count as u64);
-    printed::end()
-}
-
-fn of_ledger(name: u64, day: u64, ledger: &[u8]) -> bool {
-    match name {
-        names::LEDGER => printed::hex(ledger),
-        names::SUMMARY => summary(ledger, memory::narrow(day)),
-        _ => missing(ledger, memory::narrow(day)),
-    }
-}
-
-pub fn shown(said: Said, row: &Row, blocks: &Blocks, ledger: &Ledger) -> bool {
-    let name = said.name;
-    match name {
-        names::SHOW => recorder(row),
-        names::SUMMARY | names::MISSING | names::LEDGER => of_ledger(
-            name,
-            said.a,
-            shelves::book::lent(row, ledger),
-        ),
-        _ => of_block(name, shelves::current(row, blocks)),
+fn missing<W: Write>(ledger: &[u8], day: u32, out: &mut W) -> io::Result<()> {
+    match ledger::missing(ledger, day) {
+        Ok(m) => writeln!(out, "0 {} {}", m.first, m.count),
+        Err(r) => writeln!(out, "{} 0 0", r.number()),
     }
 }
 
 // ---- a switching table
 
-fn rate(table: &[u8], time: u64) -> bool {
-    printed::answer(tariff::rate_at(table, time) as u64)
-}
-
 // The week drawn, or why it is refused.
-fn week(table: &[u8], day: u32) -> bool {
-    let mut out = [0u8; drawn::LONGEST_WEEK];
-    let answer = drawn::week(table, day, &mut out);
-    if answer.number == answers::DONE {
-        printed::text(parts::part8(&out, 0, answer.carried as usize));
-        return true;
-    }
-    let n = lines::refused(&mut out, answer.number);
-    printed::text(parts::part8(&out, 0, n));
-    true
+fn week<W: Write>(table: &[u8], day: u32, out: &mut W) -> io::Result<()> {
+    let mut text = [0u8; drawn::LONGEST_WEEK];
+    let n = match drawn::week(table, day, &mut text) {
+        Ok(n) => n as usize,
+        Err(r) => lines::refused(&mut text, r.number()),
+    };
+    out.write_all(parts::part(&text, 0, n))
 }
 
-// The room of the table, as it is lent, or the editor's table drawn.
-pub fn of_table(said: Said, row: &Row, table: &Table, editor: &Table) -> bool {
-    let lent = parts::part8(table, 0, memory::lent_table(row));
-    let name = said.name;
-    match name {
-        names::TABLE => printed::hex(lent),
-        names::RATEAT => rate(lent, said.a),
-        _ => week(
-            parts::part8(editor, 0, tariff::TABLE),
-            memory::narrow(said.a),
-        ),
+// ---- a line
+
+pub fn shown<W: Write>(what: Shown, memory: &Memory, out: &mut W) -> io::Result<bool> {
+    let outstation = &memory.outstation;
+    let block = memory.blocks.current.bytes();
+    let ledger = memory.ledger.bytes();
+    match what {
+        Shown::Day(day) => return self::day(day, outstation, out),
+        Shown::Recorder => recorder(outstation, out)?,
+        Shown::Block => printed::hex(out, block)?,
+        Shown::Check => printed::answer(out, desk::cop6_read(block))?,
+        Shown::Listing => printed::listing(out, block)?,
+        Shown::Ledger => printed::hex(out, ledger)?,
+        Shown::Summary(day) => summary(ledger, day, out)?,
+        Shown::Missing(day) => missing(ledger, day, out)?,
+        Shown::Table => printed::hex(out, outstation.lent_table())?,
+        Shown::RateAt(time) => {
+            let rate = tariff::rate_at(outstation.lent_table(), time);
+            printed::answer(out, u64::from(rate))?;
+        }
+        Shown::Week(day) => week(parts::part(&memory.editor, 0, tariff::TABLE), day, out)?,
     }
+    Ok(true)
 }

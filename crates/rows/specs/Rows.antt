@@ -5,6 +5,7 @@ use Rattle.std.specs.Prelude.{ℕ, ◌+◌, ◌%◌, ◌<◌, ◌≡◌, Bool, c
 use Rattle.std.proofs.lemmas.List.Edits.{sets}
 use Rattle.laws.specs.Bits.{bit}
 use Rattle.laws.specs.Table.{table}
+unfoldable pub use Rattle.parts.specs.Rows.{number_in}
 use Rattle.quantity.specs.declared.MilliwattHours.{MilliwattHours}
 use Rattle.quantity.specs.declared.KilowattHours.{KilowattHours}
 use Rattle.quantity.specs.Units.{milliwatt_hours, units, kilowatt_hours, centi_kilowatts}
@@ -66,9 +67,6 @@ abbrev pub recorder_numbers : ℕ
 recorder_numbers = last_eight_at + 8
 
 -- ---- fields out of a row
-
-unfoldable pub number_in : List ℕ → ℕ → ℕ
-number_in l i = get_or l i 0
 
 abbrev pub small_in : List ℕ → ℕ → ℕ
 small_in l i = number_in l i % 4294967296

@@ -2,15 +2,17 @@
 // library for C gives. Every function takes any row: a number that is not there is 0, and an output without room stays as it was.
 #![tactic(auto)]
 
-ghost use Rattle.std.specs.Prelude.{◌≡◌, [], ◌∷◌, ◌+◌, ◌<◌, ◌≤◌, length};
+ghost use Rattle.std.specs.Prelude.{◌≡◌, ◌≤◌, length};
 ghost use Rattle.std.proofs.lemmas.List.Edits.{sets};
 ghost use Rattle.laws.specs.Table.{table};
-ghost use Rattle.rows.specs.Rows.{put_row, class_number, register_of, first_eight, last_eight, recorder_row, first_eight_at, registers_at, last_eight_at, recorder_numbers, number_in, small_in, is_in, letter_in, class_numbered, register_in, identity_from, present_from, energy_from, demand_from, running_from, recorder_from, rate_in, header_from};
+ghost use Rattle.rows.specs.Rows.{put_row, class_number, register_of, first_eight, last_eight, recorder_row, first_eight_at, registers_at, last_eight_at, recorder_numbers, small_in, is_in, letter_in, class_numbered, register_in, identity_from, present_from, energy_from, demand_from, running_from, recorder_from, rate_in, header_from};
 
 use block::Header;
+use parts::number;
 use quantity::{CentiKilowatts, KilowattHours, MilliwattHours, RegisterUnits};
 use recorder::{Identity, Recorder};
 use registers::{Demand, Energy, Present, Running};
+use std::array;
 use store::Class;
 
 // ---- where a recorder's numbers stand in its row, and how many they are
@@ -67,40 +69,12 @@ fn class_number(class: Class) -> u64
     }
 }
 
-fn put_eight(
-    out: &mut [u64],
-    at: usize,
-    a: u64,
-    b: u64,
-    c: u64,
-    d: u64,
-    e: u64,
-    f: u64,
-    g: u64,
-    h: u64,
-)
-    requires { (at + 8 ≤ length out.old) × (at < 4294967296) }
-    ensures { out.new ≡ sets out.old at (a ∷ b ∷ c ∷ d ∷ e ∷ f ∷ g ∷ h ∷ []) }
-{
-    out[at] = a;
-    out[at + 1] = b;
-    out[at + 2] = c;
-    out[at + 3] = d;
-    out[at + 4] = e;
-    out[at + 5] = f;
-    out[at + 6] = g;
-    out[at + 7] = h;
-}
-
 fn put_registers(out: &mut [u64], rates: [MilliwattHours; 8])
     requires { recorder_numbers ≤ length out.old }
     ensures { out.new ≡ sets out.old registers_at (table 8 (register_of rates)) }
 {
-    let mut i: usize = 0;
-    while i < block::RATES {
-        let w = rates[i];
-        out[REGISTER + i] = w.0;
-        i += 1;
+    for i in 0..block::RATES {
+        out[REGISTER + i] = rates[i].0;
     }
 }
 
@@ -108,83 +82,60 @@ fn put_first(out: &mut [u64], r: Recorder)
     requires { recorder_numbers ≤ length out.old }
     ensures { out.new ≡ sets out.old first_eight_at (first_eight r) }
 {
-    let identity = r.identity;
-    let class = identity.class;
-    let number = class_number(class);
-    let on = marks::one_or_0(r.clock.on);
-    put_eight(
-        out,
-        CLASS,
-        number,
-        identity.weight.0,
+    out[CLASS..REGISTER].copy_from_slice(&[
+        class_number(r.identity.class),
+        r.identity.weight.0,
         r.clock.time,
-        on,
+        u64::from(r.clock.on),
         r.clock.days as u64,
         r.energy.total.0,
         r.energy.last as u64,
         r.energy.rate as u64,
-    );
+    ]);
 }
 
 fn put_last(out: &mut [u64], r: Recorder)
     requires { recorder_numbers ≤ length out.old }
     ensures { out.new ≡ sets out.old last_eight_at (last_eight r) }
 {
-    let reverse = marks::one_or_0(r.running.reverse);
-    let level2 = marks::one_or_0(r.running.level2);
-    put_eight(
-        out,
-        CURRENT,
+    out[CURRENT..NUMBERS].copy_from_slice(&[
         r.demand.current.0,
         r.demand.previous.0,
         r.demand.cumulative.0,
         r.demand.reset as u64,
         r.demand.count as u64,
         r.running.base.0,
-        reverse,
-        level2,
-    );
+        u64::from(r.running.reverse),
+        u64::from(r.running.level2),
+    ]);
 }
 
-fn put_there(out: &mut [u64], r: Recorder)
-    requires { recorder_numbers ≤ length out.old }
-    ensures { out.new ≡ sets out.old 0 (recorder_row r) }
+fn recorder_row(r: Recorder) -> [u64; NUMBERS]
+    ensures { result ≡ recorder_row r }
 {
-    let identity = r.identity;
-    let id = identity.identifier;
-    let energy = r.energy;
-    let rates = energy.rates;
-    format::put_letters(out, id);
-    put_first(out, r);
-    put_registers(out, rates);
-    put_last(out, r);
+    let mut row = [0; NUMBERS];
+    format::put_letters(&mut row, r.identity.identifier);
+    put_first(&mut row, r);
+    put_registers(&mut row, r.energy.rates);
+    put_last(&mut row, r);
+    row
 }
 
 // The recorder's row at the beginning of the output.
 pub fn put_recorder(out: &mut [u64], r: Recorder)
     ensures { out.new ≡ put_row out.old (recorder_row r) }
 {
-    if out.len() < NUMBERS {
-        return;
+    if NUMBERS <= out.len() {
+        out[..NUMBERS].copy_from_slice(&recorder_row(r));
     }
-    put_there(out, r);
 }
 
 // ---- fields out of a row
 
-fn number(row: &[u64], i: usize) -> u64
-    ensures { result ≡ number_in row.now i }
-{
-    if i < row.len() {
-        return row[i];
-    }
-    0
-}
-
 fn small(row: &[u64], i: usize) -> u32
     ensures { result ≡ small_in row.now i }
 {
-    (number(row, i) % 4294967296) as u32
+    (number(row, i) % (1 << 32)) as u32
 }
 
 fn is_set(row: &[u64], i: usize) -> bool
@@ -193,6 +144,7 @@ fn is_set(row: &[u64], i: usize) -> bool
     number(row, i) == 1
 }
 
+#[tactic(auto, unfolding(crate::specs::Rows::letter_in))]
 fn letter(row: &[u64], i: usize) -> u8
     ensures { result ≡ letter_in row.now i }
 {
@@ -202,32 +154,21 @@ fn letter(row: &[u64], i: usize) -> u8
 fn letters(row: &[u64]) -> [u8; 12]
     ensures { result ≡ table 12 (letter_in row.now) }
 {
-    let mut id = [0u8; format::IDENTIFIER];
-    let mut i: usize = 0;
-    while i < format::IDENTIFIER {
-        id[i] = letter(row, i);
-        i += 1;
-    }
-    id
+    array::from_fn(|i| letter(row, i))
 }
 
 // The class with a number, none for any but four.
+#[tactic(auto, unfolding(crate::specs::Rows::class_numbered))]
 pub fn class_numbered(n: u64) -> Class
     ensures { result ≡ class_numbered n }
 {
-    if n == 1 {
-        return Class::A;
+    match n {
+        1 => Class::A,
+        2 => Class::B,
+        3 => Class::C,
+        4 => Class::D,
+        _ => Class::Blank,
     }
-    if n == 2 {
-        return Class::B;
-    }
-    if n == 3 {
-        return Class::C;
-    }
-    if n == 4 {
-        return Class::D;
-    }
-    Class::Blank
 }
 
 // ---- a recorder out of its row
@@ -235,13 +176,10 @@ pub fn class_numbered(n: u64) -> Class
 fn identity(row: &[u64]) -> Identity
     ensures { result ≡ identity_from row.now }
 {
-    let id = letters(row);
-    let class = class_numbered(number(row, CLASS));
-    let weight = MilliwattHours(number(row, WEIGHT));
     Identity {
-        identifier: id,
-        class: class,
-        weight: weight,
+        identifier: letters(row),
+        class: class_numbered(number(row, CLASS)),
+        weight: MilliwattHours(number(row, WEIGHT)),
     }
 }
 
@@ -258,24 +196,17 @@ fn present(row: &[u64]) -> Present
 fn registers(row: &[u64]) -> [MilliwattHours; 8]
     ensures { result ≡ table 8 (register_in row.now) }
 {
-    let mut rates = [MilliwattHours(0); block::RATES];
-    let mut i: usize = 0;
-    while i < block::RATES {
-        rates[i] = MilliwattHours(number(row, REGISTER + i));
-        i += 1;
-    }
-    rates
+    array::from_fn(|i| MilliwattHours(number(row, REGISTER + i)))
 }
 
 fn energy(row: &[u64]) -> Energy
     ensures { result ≡ energy_from row.now }
 {
-    let rates = registers(row);
     Energy {
         total: MilliwattHours(number(row, TOTAL)),
         last: small(row, LAST),
         rate: small(row, RATE),
-        rates: rates,
+        rates: registers(row),
     }
 }
 
@@ -301,6 +232,7 @@ fn running(row: &[u64]) -> Running
     }
 }
 
+#[tactic(auto, unfolding(crate::specs::Rows::recorder_from))]
 pub fn recorder(row: &[u64]) -> Recorder
     ensures { result ≡ recorder_from row.now }
 {
@@ -318,22 +250,15 @@ pub fn recorder(row: &[u64]) -> Recorder
 fn rates(row: &[u64]) -> [KilowattHours; 8]
     ensures { result ≡ table 8 (rate_in row.now) }
 {
-    let mut rates = [KilowattHours(0); block::RATES];
-    let mut i: usize = 0;
-    while i < block::RATES {
-        rates[i] = KilowattHours(number(row, desk::HEAD_RATES + i));
-        i += 1;
-    }
-    rates
+    array::from_fn(|i| KilowattHours(number(row, desk::HEAD_RATES + i)))
 }
 
+#[tactic(auto, unfolding(crate::specs::Rows::header_from))]
 pub fn header(row: &[u64]) -> Header
     ensures { result ≡ header_from row.now }
 {
-    let id = letters(row);
-    let rates = rates(row);
     Header {
-        identifier: id,
+        identifier: letters(row),
         time: number(row, desk::HEAD_TIME),
         kwh: KilowattHours(number(row, desk::HEAD_KWH)),
         current: CentiKilowatts(number(row, desk::HEAD_CURRENT)),
@@ -341,6 +266,6 @@ pub fn header(row: &[u64]) -> Header
         cumulative: CentiKilowatts(number(row, desk::HEAD_CUMULATIVE)),
         reset: small(row, desk::HEAD_RESET),
         count: small(row, desk::HEAD_RESETS),
-        rates: rates,
+        rates: rates(row),
     }
 }

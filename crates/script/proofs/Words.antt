@@ -2,54 +2,53 @@
 -- Assumes nothing.
 use Prim.Native.Nat.{ℕ, zero, suc, ◌+◌, ◌-◌, ◌≤◌, ◌<◌, max}
 use mathlib.Core.Path.{◌≡◌, refl, sym, ap, ◌∙◌}
-use mathlib.Core.Bool.{cond}
+use mathlib.Core.Bool.{Bool, true, false, cond}
 use mathlib.Core.List.{List, [], ◌∷◌}
 use native.Mathlib.Omega.{arith}
-use lib.Dec.{eqb}
-use lib.ListN.{length, take, drop, get_or, drop_of_length-le}
-use lib.Seq.{drop-drop}
-use borrow.Author.Tests.{le-leb, lt-leb, eq-eqb, ne_eqb}
+use lib.Dec.{eqb, ltb}
+use lib.ListN.{length, take, drop, get_or, length-drop, drop_of_length-le}
+use lib.Seq.{drop-drop, take_all}
+use mir.Val.{bool_byte}
+use borrow.Author.Tests.{ltb-true, ltb-false}
+use Rattle.std.specs.Prelude.{Option, Some, None}
+use Rattle.std.specs.List.{position, position_or_len}
 use Rattle.laws.specs.Bits.{bit}
 use Rattle.laws.specs.Tests.{sum_below}
+use Rattle.std.proofs.lemmas.List.Recursion.{is_position_or_len}
+use Rattle.laws.proofs.Split.{by_test}
 use Rattle.laws.proofs.Tests.{sum_none, sum_turn, sum_end}
-use Rattle.format.specs.Numbers.{binary, num_at}
-use Rattle.script.specs.Words.{index_of, space, newline, line_end, after, word_at, is_space, arguments_in, name_of}
+use Rattle.script.specs.Words.{index_of, space, line_end, after, is_space, arguments_in}
 
 -- ---- a byte, looked for from an index on
 
--- what a search has come to: the byte is not before i
-pub record Looking (s : List ℕ) (b from i : ℕ) : Type 0 where
-  pub since : from ≤ i
-  pub room : i ≤ length s
-  pub rest : i + index_of b (drop i s) ≡ from + index_of b (drop from s)
-
-pub looking_none : (s : List ℕ) (b from : ℕ) → from ≤ length s → Looking s b from from
-looking_none s b from h = record { since = omega arith; room = h; rest = refl }
-
--- at an index of the list
-here : (s : List ℕ) (b i : ℕ) → i < length s → index_of b (drop i s) ≡ cond (eqb (get_or s i 0) b) 0 (suc (index_of b (drop (suc i) s)))
+index_is : (b : ℕ) (s : List ℕ) → index_of b s ≡ position_or_len (λ (x : ℕ). eqb x b) s
 unfolding index_of
-here [] b i h = absurd (omega arith)
-here (x ∷ s) b zero h = refl
-here (x ∷ s) b (suc i) h = here s b i (omega arith)
+index_is b s = is_position_or_len (index_of b) (λ (x : ℕ). eqb x b) refl (λ x xs. let e : 1 + index_of b xs ≡ suc (index_of b xs) = omega arith in rw e refl) s
 
-module _ (s : List ℕ) (b from i : ℕ) (p : Looking s b from i) where
-  pub looking_on : i < length s → (get_or s i 0 ≡ b → ⊥) → Looking s b from (i + 1)
-  looking_on h n =
-      let e : i + 1 ≡ suc i = omega arith in
-      let step : index_of b (drop i s) ≡ suc (index_of b (drop (suc i) s)) = here s b i h ∙ rw (ne_eqb (get_or s i 0) b n) refl in
-      rw e (record { since = omega (arith, p.since); room = omega arith; rest = omega (arith, p.rest, step) })
+index_le : (b : ℕ) (s : List ℕ) → index_of b s ≤ length s
+unfolding index_of
+index_le b [] = omega arith
+index_le b (x ∷ s) = by_test (eqb x b) (λ h. rw h (omega arith)) (λ h. rw h (omega (arith, index_le b s)))
 
-  pub found_here : i < length s → get_or s i 0 ≡ b → i ≡ from + index_of b (drop from s)
-  found_here h e =
-      let step : index_of b (drop i s) ≡ 0 = here s b i h ∙ rw (eq-eqb (get_or s i 0) b e) refl in
-      omega (arith, p.rest, step)
+-- what `position` gives, in the words of the definition
+module _ (s : List ℕ) (b from : ℕ) (h : from ≤ length s) (r : Option ℕ)
+    (e : r ≡ position (λ (x : ℕ). eqb x b) (take (length s - from) (drop from s))) where
+  place : r ≡ cond (ltb (index_of b (drop from s)) (length (drop from s))) (Some (index_of b (drop from s))) None
+  place = rw (index_is b (drop from s), ← take_all (length s - from) (drop from s) (omega (arith, length-drop from s))) e
 
-  pub found_none : length s ≤ i → i ≡ from + index_of b (drop from s)
-  unfolding index_of
-  found_none h =
-      let step : index_of b (drop i s) ≡ 0 = rw (drop_of_length-le s {i = i} h) refl in
-      omega (arith, p.rest, step)
+  pub found_at : (i : ℕ) → r ≡ Some i → (from + i ≡ from + index_of b (drop from s)) × (from ≤ from + i) × (from + i ≤ length s)
+  found_at i q =
+      let l = length-drop from s in
+      by_test (ltb (index_of b (drop from s)) (length (drop from s)))
+      (λ t. let g : r ≡ Some (index_of b (drop from s)) = rw t at place in let z : i ≡ index_of b (drop from s) = cc in (omega arith, omega arith, omega (arith, ltb-true _ _ t)))
+      (λ t. let g : r ≡ None = rw t at place in let z : ◌≡◌ {A = ℕ} 0 1 = cc in absurd (omega arith))
+
+  pub found_nowhere : r ≡ None → (length s ≡ from + index_of b (drop from s)) × (from ≤ length s) × (length s ≤ length s)
+  found_nowhere q =
+      let l = length-drop from s in
+      by_test (ltb (index_of b (drop from s)) (length (drop from s)))
+      (λ t. let g : r ≡ Some (index_of b (drop from s)) = rw t at place in let z : ◌≡◌ {A = ℕ} 0 1 = cc in absurd (omega arith))
+      (λ t. (omega (arith, ltb-false _ _ t, index_le b (drop from s)), h, omega arith))
 
 -- ---- lines
 
@@ -57,27 +56,29 @@ pub line_none : (s : List ℕ) (i : ℕ) → length s < i → (i ≡ line_end s 
 unfolding line_end index_of
 line_none s i h = (rw (drop_of_length-le s {i = i} (omega arith)) (omega arith), omega arith, omega arith)
 
-pub line_found : (s : List ℕ) (i r : ℕ) → r ≡ i + index_of newline (drop i s) → r ≡ line_end s i
-unfolding line_end
-line_found s i r e = e
-
 -- ---- how many words
 
 pub record Spaces (s : List ℕ) (i n : ℕ) : Type 0 where
-  pub at_most : i ≤ length s
   pub is : n ≡ sum_below (is_space s) i
   pub few : n ≤ i
 
 pub spaces_none : (s : List ℕ) → Spaces s 0 0
-spaces_none s = record { at_most = omega arith; is = sum_none (is_space s); few = omega arith }
+spaces_none s = record { is = sum_none (is_space s); few = omega arith }
 
-pub spaces_on : (s : List ℕ) (i n b : ℕ) → Spaces s i n → i < length s → b ≡ bit (eqb (get_or s i 0) space) → b ≤ 1 → Spaces s (i + 1) (n + b)
+-- a test as a number, as `usize::from` gives it
+bit_of : (t : Bool) → (bool_byte t ≡ bit t) × (bit t ≤ 1)
+bit_of true = (refl, omega arith)
+bit_of false = (refl, omega arith)
+
+pub spaces_on : (s : List ℕ) (i n b : ℕ) → Spaces s i n → b ≡ bool_byte (eqb (get_or s i 0) space) → Spaces s (i + 1) (n + b)
 unfolding is_space
-spaces_on s i n b p h e l = record { at_most = omega arith; is = sum_turn (is_space s) i n b p.is e; few = omega (arith, p.few) }
+spaces_on s i n b p e =
+    let h = bit_of (eqb (get_or s i 0) space) in
+    record { is = sum_turn (is_space s) i n b p.is (e ∙ h.0); few = omega (arith, p.few, e ∙ h.0, h.1) }
 
-pub spaces_all : (s : List ℕ) (i n : ℕ) → Spaces s i n → length s ≤ i → n ≡ arguments_in s
+pub spaces_all : (s : List ℕ) (i n : ℕ) → Spaces s i n → i ≤ length s → length s ≤ i → n ≡ arguments_in s
 unfolding arguments_in
-spaces_all s i n p h = sum_end (is_space s) i (length s) n p.is p.at_most h
+spaces_all s i n p l h = sum_end (is_space s) i (length s) n p.is l h
 
 -- ---- word k
 
@@ -120,19 +121,3 @@ module _ (s : List ℕ) (k : ℕ) where
   pub passed_all : (j from : ℕ) → Passed s k j from → k ≤ j → drop from s ≡ after k s
   unfolding after
   passed_all j from p h = let e : k - j ≡ 0 = omega arith in rw e at p.rest
-
-  pub word_is : (from end : ℕ) → drop from s ≡ after k s → end ≡ from + index_of space (drop from s) → take (end - from) (drop from s) ≡ word_at k s
-  unfolding word_at
-  word_is from end d e =
-      let y : end - from ≡ index_of space (drop from s) = omega (arith, e) in
-      rw (y, d)
-
--- ---- a word as one number
-
-pub name_none : (w : List ℕ) → 8 < length w → 0 ≡ name_of w
-unfolding name_of
-name_none w h = rw (lt-leb (length w) 8 h)
-
-pub name_is : (w : List ℕ) (r : ℕ) → r ≡ num_at binary w 0 (length w) → length w ≤ 8 → r ≡ name_of w
-unfolding name_of
-name_is w r e h = rw (le-leb (length w) 8 h) e

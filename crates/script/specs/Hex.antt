@@ -1,10 +1,8 @@
 -- Bytes in hexadecimal (docs/REPLAY.md, `BYTES`): two digits a byte, read in capitals or small letters, written in small letters.
-use Rattle.std.specs.Prelude.{ℕ, ◌+◌, ◌-◌, ◌*◌, ◌/◌, ◌%◌, Bool, cond, ◌&&◌, ◌||◌, List, eqb, leb, ltb, length, get_or}
+use Rattle.std.specs.Prelude.{ℕ, ◌+◌, ◌-◌, ◌*◌, ◌/◌, ◌%◌, Bool, cond, ◌&&◌, ◌||◌, Option, Some, None, List, eqb, leb, ltb, length, get_or}
 use Rattle.std.proofs.lemmas.List.Edits.{sets}
 use Rattle.laws.specs.Table.{table}
 use Rattle.laws.specs.Tests.{all_below}
-use Rattle.format.specs.declared.Number.{Number}
-use Rattle.format.specs.declared.Number.TheVariants.{Is, Bad}
 
 unfoldable pub is_hex : ℕ → Bool
 is_hex b = ((leb 48 b && leb b 57) || (leb 65 b && leb b 70)) || (leb 97 b && leb b 102)
@@ -29,17 +27,17 @@ byte_in w i = (16 * sixteenth (get_or w (2 * i) 0) + sixteenth (get_or w (2 * i 
 
 pub record Unhexed : Type 0 where
   pub out : List ℕ
-  pub count : Number
+  pub count : Option ℕ
 
-abbrev pub unhexing : List ℕ → Number → Unhexed
+abbrev pub unhexing : List ℕ → Option ℕ → Unhexed
 unhexing l n = record { out = l; count = n }
 
 -- its bytes at the beginning of an output, and how many: where it names some, and they fit
 unfoldable pub unhexed : List ℕ → List ℕ → Unhexed
 unhexed w l =
     cond (hex_ok w && leb (length w / 2) (length l))
-    (unhexing (sets l 0 (table (length w / 2) (byte_in w))) (Is (length w / 2)))
-    (unhexing l Bad)
+    (unhexing (sets l 0 (table (length w / 2) (byte_in w))) (Some (length w / 2)))
+    (unhexing l None)
 
 -- ---- written
 

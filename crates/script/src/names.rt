@@ -1,4 +1,5 @@
-// The words of a script as numbers: the bytes of their letters, the first one highest, as `script::name` makes them.
+// The words of a script as numbers: the bytes of their letters, the first one highest. They stay numbers, and no enum, since `script::name` promises one of each word
+// (`name_of`); what they ask for is an enum of the crate `commands`, which alone matches on them.
 
 pub const SETUP: u64 = 0x7365747570;
 
@@ -69,16 +70,6 @@ pub const LEDGER: u64 = 0x6c6564676572;
 pub const LEND: u64 = 0x6c656e64;
 
 pub const POKE: u64 = 0x706f6b65;
-
-// `lend ledger` and the like, as far as eight letters go: no one word has a space.
-
-pub const LEND_LEDGER: u64 = 0x6c656e64206c6564;
-
-pub const POKE_LEDGER: u64 = 0x706f6b65206c6564;
-
-pub const LEND_TABLE: u64 = 0x6c656e6420746162;
-
-pub const POKE_TABLE: u64 = 0x706f6b6520746162;
 
 pub const CLASS: u64 = 0x636c617373;
 

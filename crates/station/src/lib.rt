@@ -5,11 +5,11 @@
 ghost use Rattle.std.specs.Prelude.{◌≡◌};
 ghost use Rattle.store.specs.Store.{store};
 ghost use Rattle.desk.specs.Given.{given};
-ghost use Rattle.laws.specs.Bits.{bit};
 ghost use Rattle.outstation.specs.Outstation.{happening};
-ghost use Rattle.station.specs.Station.{left, tells_in, phase_in, outstation_in, put_tells, is_single, put_outstation, set_up_in, happens_in, read_in, write_in};
+ghost use Rattle.station.specs.Station.{left, tells_in, phase_in, outstation_in, put_tells, put_outstation, set_up_in, happens_in, read_in, write_in};
 
 use outstation::{Happening, Outstation, Phase};
+use recorder::SetUp;
 
 // Behind the recorder's numbers: 1 where a switching table is loaded, and 1 where it is single phase.
 pub const LOADED: usize = rows::NUMBERS;
@@ -17,13 +17,11 @@ pub const LOADED: usize = rows::NUMBERS;
 pub const SINGLE: usize = LOADED + 1;
 
 // Whether a number says so.
+#[tactic(auto, unfolding(parts::specs::Rows::number_in))]
 fn tells(row: &[u64], at: usize) -> bool
     ensures { result ≡ tells_in row.now at }
 {
-    if at < row.len() {
-        return row[at] == 1;
-    }
-    false
+    parts::number(row, at) == 1
 }
 
 fn phase(row: &[u64]) -> Phase
@@ -39,47 +37,27 @@ fn phase(row: &[u64]) -> Phase
 fn outstation(row: &[u64]) -> Outstation
     ensures { result ≡ outstation_in row.now }
 {
-    let loaded = tells(row, LOADED);
-    let phase = phase(row);
-    let r = rows::recorder(row);
     Outstation {
-        recorder: r,
-        loaded: loaded,
-        phase: phase,
+        recorder: rows::recorder(row),
+        loaded: tells(row, LOADED),
+        phase: phase(row),
     }
-}
-
-fn one_if(b: bool) -> u64
-    ensures { result ≡ bit b }
-{
-    if b { 1 } else { 0 }
 }
 
 fn put_tells(row: &mut [u64], at: usize, so: bool)
     ensures { row.new ≡ put_tells row.old at so }
 {
     if at < row.len() {
-        row[at] = one_if(so);
-    }
-}
-
-fn is_single(phase: Phase) -> bool
-    ensures { result ≡ is_single phase }
-{
-    match phase {
-        Phase::Single => true,
-        Phase::Poly => false,
+        row[at] = u64::from(so);
     }
 }
 
 fn put_outstation(row: &mut [u64], o: Outstation)
     ensures { row.new ≡ put_outstation row.old o }
 {
-    let r = o.recorder;
-    rows::put_recorder(row, r);
+    rows::put_recorder(row, o.recorder);
     put_tells(row, LOADED, o.loaded);
-    let phase = o.phase;
-    put_tells(row, SINGLE, is_single(phase));
+    put_tells(row, SINGLE, o.phase == Phase::Single);
 }
 
 // The numbers of a row are what the recorder is set up with.
@@ -94,26 +72,18 @@ pub fn set_up(
         ≡ set_up_in row.old (store values.old starts.old marks.old) table.old }
 {
     let r = rows::recorder(row);
-    let identity = r.identity;
-    let id = identity.identifier;
-    let class = identity.class;
-    let phase = phase(row);
-    let done = Outstation::set_up(
-        id,
-        class,
-        phase,
-        identity.weight,
-        r.clock.time,
-        r.energy.total,
-        r.energy.last,
-        values,
-        starts,
-        marks,
-        table,
-    );
-    let o = done.outstation;
+    let identifier = r.identity.identifier;
+    let given = SetUp {
+        identifier,
+        class: r.identity.class,
+        weight: r.identity.weight,
+        time: r.clock.time,
+        total: r.energy.total,
+        counter: r.energy.last,
+    };
+    let (o, done) = Outstation::set_up(given, phase(row), values, starts, marks, table);
     put_outstation(row, o);
-    desk::one_number(done.answer, done.carried)
+    desk::number(done.and(Ok(0)))
 }
 
 // An event, a load of the table that is offered, or that it becomes single phase.
@@ -129,10 +99,10 @@ pub fn happens(
     ensures { left result row.new values.new starts.new marks.new table.new
         ≡ happens_in row.old (happening what offered.now) (store values.old starts.old marks.old) table.old }
 {
-    let done = outstation(row).happens(what, offered, values, starts, marks, table);
-    let o = done.outstation;
+    let mut o = outstation(row);
+    let done = o.happens(what, offered, values, starts, marks, table);
     put_outstation(row, o);
-    desk::one_number(done.answer, done.carried)
+    desk::number(done.and(Ok(0)))
 }
 
 // A read of so many days.
@@ -147,8 +117,8 @@ pub fn read(
     ensures { given out.new result
         ≡ read_in row.now days (store values.now starts.now marks.now) out.old }
 {
-    let done = readout::read(rows::recorder(row), days, values, starts, marks, out);
-    desk::one_number(done.answer, done.carried)
+    let read = readout::read(&rows::recorder(row), days, values, starts, marks, out);
+    desk::number(read.map(u64::from))
 }
 
 // A block written from a header's row and so many days, newest first.
@@ -163,6 +133,6 @@ pub fn write(
     ensures { given out.new result
         ≡ write_in row.now days (store values.now starts.now marks.now) out.old }
 {
-    let answer = writer::write(rows::header(row), days, values, starts, marks, out);
-    desk::one_number(answer.number, answer.carried)
+    let written = writer::write(rows::header(row), days, values, starts, marks, out);
+    desk::number(written.map(u64::from))
 }

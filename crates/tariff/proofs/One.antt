@@ -8,18 +8,18 @@ use mathlib.Core.List.Memᴰ
 use mathlib.Core.List.{List, [], ◌∷◌, Memᴰ}
 use native.Mathlib.Omega.{arith}
 use lib.Dec.{eqb, ltb, leb}
-use borrow.Author.Tests.{eqb-true, eq-eqb, leb-true, le-leb, ltb-true, ltb-false}
+use borrow.Author.Tests.{eqb-true, le-leb}
 use Rattle.calendar.specs.Clock.{seconds_of_day}
-use Rattle.registers.specs.Energy.{rate_count, rate_ok}
-use Rattle.laws.proofs.Bools.{and_left, and_right, both, both_of, or_split, or_some, or_none_lem}
+use Rattle.registers.specs.Energy.{rate_count}
+use Rattle.laws.proofs.Bools.{and_left, both, both_of, or_split, or_some}
 use Rattle.laws.proofs.Split.{by_test}
 use Rattle.tariff.specs.declared.Today.{Today}
-use Rattle.tariff.specs.Table.{Entry, is_time, is_exception, is_weekdays, is_default, minute_of, any_of, all_of, count_of, exception, weekdays, default, time, most_times, most_exceptions, hours_of_day, minutes_of_hour}
-use Rattle.tariff.specs.Judge.{blank_ok, time_ok, exception_ok, weekdays_ok, default_ok, type_ok, entry_ok, uses, opens, served, clash_in, sound}
+use Rattle.tariff.specs.Table.{Entry, is_time, is_exception, is_default, minute_of, any_of, all_of, count_of, default, most_times, most_exceptions}
+use Rattle.tariff.specs.Judge.{entry_ok, uses, opens, served, clash_in, sound}
 use Rattle.tariff.specs.Rate.{today_of, minute_at, dated, of_week, covers, higher, ruled, applies, mark_of, later, latest, rate_in}
 use Rattle.tariff.specs.Saved.{Rules, InForce, Says}
-use Rattle.tariff.proofs.Lists.{Found, or_left, any_of_lem, all_in}
-use Rattle.tariff.proofs.Clashing.{clash_free, covers_kind, cover_clash, times_clash}
+use Rattle.tariff.proofs.Lists.{Found, any_of_lem, all_in}
+use Rattle.tariff.proofs.Clashing.{clash_free, cover_clash, times_clash}
 
 -- ---- the entry that rules
 
@@ -37,16 +37,12 @@ module _ (k : Today) where
 
   -- no lower than what was best, nor than an entry that covers the day
   higher_keeps : (e best : Entry) → (higher k e best).kind ≤ best.kind
-  higher_keeps e best =
-      by_test (wins e best)
-      (λ h. rw (higher_yes e best h) (omega (arith, ltb-true e.kind best.kind (and_right (covers k e) (ltb e.kind best.kind) h))))
-      (λ h. rw (higher_no e best h) (omega arith))
+  unfolding higher
+  higher_keeps e best = grind arith
 
   higher_takes : (e best : Entry) → covers k e ≡ true → (higher k e best).kind ≤ e.kind
-  higher_takes e best c =
-      by_test (ltb e.kind best.kind)
-      (λ h. rw (higher_yes e best (both_of _ _ c h)) (omega arith))
-      (λ h. rw (higher_no e best (rw (c, h))) (ltb-false e.kind best.kind h))
+  unfolding higher
+  higher_takes e best c = grind arith
 
   pub ruled_least : (es : List Entry) (f : Entry) → Memᴰ f es → covers k f ≡ true → (ruled k es).kind ≤ f.kind
   unfolding ruled
@@ -87,16 +83,12 @@ module _ (daytype minute : ℕ) where
   later_no e best h = rw h
 
   later_keeps : (e best : Entry) → mark_of best ≤ mark_of (later daytype minute e best)
-  later_keeps e best =
-      by_test (comes e best)
-      (λ h. rw (later_yes e best h) (omega (arith, ltb-true (mark_of best) (mark_of e) (and_right (applies daytype minute e) (ltb (mark_of best) (mark_of e)) h))))
-      (λ h. rw (later_no e best h) (omega arith))
+  unfolding later
+  later_keeps e best = grind arith
 
   later_takes : (e best : Entry) → applies daytype minute e ≡ true → mark_of e ≤ mark_of (later daytype minute e best)
-  later_takes e best c =
-      by_test (ltb (mark_of best) (mark_of e))
-      (λ h. rw (later_yes e best (both_of _ _ c h)) (omega arith))
-      (λ h. rw (later_no e best (rw (c, h))) (ltb-false (mark_of best) (mark_of e) h))
+  unfolding later
+  later_takes e best c = grind arith
 
   pub latest_most : (es : List Entry) (f : Entry) → Memᴰ f es → applies daytype minute f ≡ true → mark_of f ≤ mark_of (latest daytype minute es)
   unfolding latest
@@ -125,34 +117,16 @@ module _ (daytype minute : ℕ) where
   -- what an entry in force is
   pub is_switch : (e : Entry) → applies daytype minute e ≡ true → (is_time e ≡ true) × ((e.daytype ≡ daytype) × (minute_of e ≤ minute))
   unfolding applies
-  is_switch e h =
-      let a = both (is_time e && eqb e.daytype daytype) (leb (minute_of e) minute) h in
-      let b = both (is_time e) (eqb e.daytype daytype) a.0 in
-      (b.0, (eqb-true e.daytype daytype b.1, leb-true (minute_of e) minute a.1))
+  is_switch e h = grind arith
 
   mark_of_lem : (e : Entry) → is_time e ≡ true → mark_of e ≡ minute_of e + 1
   mark_of_lem e h = rw h
 
 -- ---- ranges of a switching time
 
-or_false : {b : Bool} → (b || false) ≡ true → b ≡ true
-or_false {b} h = sym (or_none_lem b false refl) ∙ h
-
-kind_of : (e : Entry) → entry_ok e ≡ true → is_time e ≡ true → time_ok e ≡ true
-unfolding entry_ok
-kind_of e h t =
-    let one : e.kind ≡ time = eqb-true e.kind time t in
-    let zero : blank_ok e ≡ false = rw one in
-    let two : exception_ok e ≡ false = rw one in
-    let three : weekdays_ok e ≡ false = rw one in
-    let four : default_ok e ≡ false = rw one in
-    let rest : (type_ok e && (((time_ok e || false) || false) || false)) ≡ true = rw (zero, two, three, four) at h in
-    or_false (or_false (or_false (and_right (type_ok e) (((time_ok e || false) || false) || false) rest)))
-
 pub time_range : (e : Entry) → entry_ok e ≡ true → is_time e ≡ true → (1 ≤ e.z) × (e.z ≤ rate_count)
-time_range e h t =
-    let rate = and_right ((is_time e && ltb e.x hours_of_day) && ltb e.y minutes_of_hour) (rate_ok e.z) (kind_of e h t) in
-    (leb-true 1 e.z (and_left (leb 1 e.z) (leb e.z rate_count) rate), leb-true e.z rate_count (and_right (leb 1 e.z) (leb e.z rate_count) rate))
+unfolding entry_ok
+time_range e h t = grind arith
 
 -- ---- an accepted table
 
@@ -193,13 +167,8 @@ module _ (es : List Entry) (s : sound es ≡ true) (free : clash_in es ≡ false
   rules = record { stands = ruling.stands; here = ruling.here; highest = λ f m c. ruled_least k es f m c }
 
   uses_ruler : uses ruler ≡ true
-  uses_ruler =
-      ⊎_elim
-      (λ e. or_left (is_exception ruler || is_weekdays ruler) (is_default ruler) (or_left (is_exception ruler) (is_weekdays ruler) (eq-eqb ruler.kind exception e)))
-      (⊎_elim
-      (λ e. or_left (is_exception ruler || is_weekdays ruler) (is_default ruler) (or_some (is_exception ruler) (is_weekdays ruler) (eq-eqb ruler.kind weekdays e)))
-      (λ e. or_some (is_exception ruler || is_weekdays ruler) (is_default ruler) (eq-eqb ruler.kind default e)))
-      (covers_kind k ruler ruling.here)
+  unfolding covers
+  uses_ruler = let here = ruling.here in grind arith
 
   has_midnight : any_of (opens ruler.daytype) es ≡ true
   unfolding served

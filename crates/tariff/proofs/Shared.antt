@@ -2,90 +2,56 @@
 -- Assumes nothing.
 use Prim.Native.Nat.{ℕ, ◌+◌, ◌%◌, ◌≤◌}
 use mathlib.Core.Path.{◌≡◌, refl, sym, ◌∙◌}
-use mathlib.Core.Bool.{Bool, true, false, ◌&&◌, ◌||◌, false≢true}
-use mathlib.Core.Logic.{◌⊎◌, inl, inr, ⊎_elim}
+use mathlib.Core.Bool.{true, false, ◌&&◌, ◌||◌, false≢true}
+use mathlib.Core.Logic.{◌⊎◌, ⊎_elim}
 use native.Mathlib.Omega.{arith}
 use native.Mathlib.Decide.{dec_lt}
 use lib.Dec.{eqb, leb}
-use borrow.Author.Tests.{eqb-true, eq-eqb, leb-true, le-leb}
+use borrow.Author.Tests.{eqb-true, eq-eqb, leb-true}
 use Rattle.calendar.specs.Calendar.{real_date, day_number, day_of}
 use Rattle.calendar.specs.Digits.{is_day}
 use Rattle.calendar.proofs.Dates.{Real, real_facts, day_below, date_of_day_of}
-use Rattle.laws.proofs.Bools.{and_right, both, both_of, or_split, or_some, or_none_lem}
+use Rattle.laws.proofs.Bools.{and_right, both, or_split, or_some}
 use Rattle.laws.proofs.Split.{by_test, by_dec}
 use Rattle.tariff.specs.Table.{Entry, is_exception, is_weekdays, is_default, exception, weekdays, default, days_of_week}
-use Rattle.tariff.specs.Judge.{every_year, blank_ok, type_ok, time_ok, exception_ok, weekdays_ok, default_ok, entry_ok, uses, year_of, date_ok, same_time, same_date, same_weekday, clash}
+use Rattle.tariff.specs.Judge.{every_year, entry_ok, uses, year_of, date_ok, same_date, same_weekday, clash}
 use Rattle.tariff.specs.Rate.{weekday_of, today_of, dated, of_week, covers}
 use Rattle.tariff.specs.Saved.{SameDay, ClashIsSameDay}
 use Rattle.tariff.proofs.Lists.{or_left}
 use Rattle.tariff.proofs.Clashing.{cover_clash}
 
-or_false : {b : Bool} → (b || false) ≡ true → b ≡ true
-or_false {b} h = sym (or_none_lem b false refl) ∙ h
-
 -- ---- an entry in range, by its kind
 
 date_entry : (e : Entry) → entry_ok e ≡ true → e.kind ≡ exception → date_ok e ≡ true
 unfolding entry_ok
-date_entry e h k =
-    let blank : blank_ok e ≡ false = rw k in
-    let time : time_ok e ≡ false = rw k in
-    let week : weekdays_ok e ≡ false = rw k in
-    let default : default_ok e ≡ false = rw k in
-    let rest : (type_ok e && (((false || exception_ok e) || false) || false)) ≡ true = rw (blank, time, week, default) at h in
-    and_right (is_exception e) (date_ok e) (or_false (or_false (and_right (type_ok e) (((false || exception_ok e) || false) || false) rest)))
+date_entry e h k = grind arith
 
 week_entry : (e : Entry) → entry_ok e ≡ true → e.kind ≡ weekdays → (1 ≤ e.x) × ((e.x ≤ e.y) × (e.y ≤ days_of_week))
 unfolding entry_ok
-week_entry e h k =
-    let blank : blank_ok e ≡ false = rw k in
-    let time : time_ok e ≡ false = rw k in
-    let date : exception_ok e ≡ false = rw k in
-    let default : default_ok e ≡ false = rw k in
-    let rest : (type_ok e && (((false || false) || weekdays_ok e) || false)) ≡ true = rw (blank, time, date, default) at h in
-    let w : weekdays_ok e ≡ true = or_false (and_right (type_ok e) (((false || false) || weekdays_ok e) || false) rest) in
-    let a = both (((is_weekdays e && leb 1 e.x) && leb e.x e.y) && leb e.y days_of_week) (eqb e.z 0) w in
-    let b = both ((is_weekdays e && leb 1 e.x) && leb e.x e.y) (leb e.y days_of_week) a.0 in
-    let c = both (is_weekdays e && leb 1 e.x) (leb e.x e.y) b.0 in
-    (leb-true 1 e.x (and_right (is_weekdays e) (leb 1 e.x) c.0), (leb-true e.x e.y c.1, leb-true e.y days_of_week b.1))
+week_entry e h k = grind arith
 
 -- ---- a clash, by the kind
 
 clash_date : (a b : Entry) → a.kind ≡ exception → clash a b ≡ true → same_date a b ≡ true
 unfolding clash
-clash_date a b k h =
-    let time : same_time a b ≡ false = rw k in
-    let week : same_weekday a b ≡ false = rw k in
-    let default : (is_default a && is_default b) ≡ false = rw k in
-    or_false (or_false (rw (time, week, default) at h))
+clash_date a b k h = grind arith
 
 clash_week : (a b : Entry) → a.kind ≡ weekdays → clash a b ≡ true → same_weekday a b ≡ true
 unfolding clash
-clash_week a b k h =
-    let time : same_time a b ≡ false = rw k in
-    let date : same_date a b ≡ false = rw k in
-    let default : (is_default a && is_default b) ≡ false = rw k in
-    or_false (rw (time, date, default) at h)
+clash_week a b k h = grind arith
 
 -- ---- a day that both cover
 
 default_day : (a b : Entry) → a.kind ≡ default → b.kind ≡ default → SameDay a b
 unfolding covers
-default_day a b k m = (
-  0,
-  omega arith,
-  or_some (dated (today_of 0) a || of_week (today_of 0) a) (is_default a) (eq-eqb a.kind default k),
-  or_some (dated (today_of 0) b || of_week (today_of 0) b) (is_default b) (eq-eqb b.kind default m),
-)
+default_day a b k m = (0, omega arith, grind arith, grind arith)
 
 -- weekday w is that of day (w + 1) mod 7
 week_covers : (e : Entry) (w : ℕ) → e.kind ≡ weekdays → 1 ≤ w → w ≤ days_of_week → e.x ≤ w → w ≤ e.y → covers (today_of ((w + 1) % days_of_week)) e ≡ true
 unfolding covers today_of
 week_covers e w k low high from to =
     let day : weekday_of ((w + 1) % days_of_week) ≡ w = omega arith in
-    or_left (dated (today_of ((w + 1) % days_of_week)) e || of_week (today_of ((w + 1) % days_of_week)) e) (is_default e)
-    (or_some (dated (today_of ((w + 1) % days_of_week)) e) (of_week (today_of ((w + 1) % days_of_week)) e)
-    (rw day (both_of (is_weekdays e && leb e.x w) (leb w e.y) (both_of (is_weekdays e) (leb e.x w) (eq-eqb e.kind weekdays k) (le-leb e.x w from)) (le-leb w e.y to))))
+    grind (arith, day)
 
 week_day : (a b : Entry) → entry_ok a ≡ true → entry_ok b ≡ true → a.kind ≡ weekdays → b.kind ≡ weekdays → same_weekday a b ≡ true → SameDay a b
 week_day a b p q k m h =
@@ -165,11 +131,7 @@ date_day a b p q k m h =
 -- ---- both ways
 
 uses_kind : (e : Entry) → uses e ≡ true → (e.kind ≡ exception) ⊎ ((e.kind ≡ weekdays) ⊎ (e.kind ≡ default))
-uses_kind e h =
-    or_split (is_exception e || is_weekdays e) (is_default e)
-    (or_split (is_exception e) (is_weekdays e) (λ p. inl (eqb-true e.kind exception p)) (λ p. inr (inl (eqb-true e.kind weekdays p))))
-    (λ p. inr (inr (eqb-true e.kind default p)))
-    h
+uses_kind e h = grind arith
 
 pub clash_is_same_day : ClashIsSameDay
 clash_is_same_day a b p q u k = (

@@ -4,6 +4,8 @@
 use Rattle.std.specs.Prelude.{ℕ, zero, suc, ◌+◌, ◌*◌, Bool, true, false, ◌&&◌, ◌||◌, List, [], ◌∷◌, eqb, get_or}
 use Rattle.laws.specs.Bits.{bit}
 pub use Rattle.tariff.specs.declared.Entry.{Entry}
+use Rattle.tariff.specs.declared.Kind.{Kind}
+use Rattle.tariff.specs.declared.Kind.TheVariants.{Unused, Time, Exception, Weekdays, Default}
 
 abbrev pub most_times : ℕ
 most_times = 48
@@ -57,6 +59,13 @@ weekdays = 3
 
 abbrev pub default : ℕ
 default = 4
+
+abbrev pub byte_of_kind : Kind → ℕ
+byte_of_kind Unused = unused
+byte_of_kind Time = time
+byte_of_kind Exception = exception
+byte_of_kind Weekdays = weekdays
+byte_of_kind Default = default
 
 abbrev pub is_time : Entry → Bool
 is_time e = eqb e.kind time

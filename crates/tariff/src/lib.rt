@@ -2,16 +2,19 @@
 // time has gone by.
 #![tactic(auto)]
 
-ghost use Rattle.std.specs.Prelude.{◌≡◌, ◌<◌, ◌≤◌, length};
+ghost use Rattle.std.specs.Prelude.{◌≡◌, ◌<◌, ◌≤◌, MatchOption, nat_eq};
+ghost use Rattle.answers.specs.Answer.{judged_as};
 ghost use Rattle.calendar.specs.Calendar.{days_in_all};
-ghost use Rattle.tariff.specs.Table.{days_of_week, table_size, slot_count, slot_at, slots_of, is_time, is_exception, is_default, minute_of};
-ghost use Rattle.tariff.specs.Judge.{year_of, date_ok, time_ok, entry_ok, opens, same_time, clash, above, names_above, judged};
-ghost use Rattle.tariff.specs.Rate.{weekday_of, today_of, day_type, covers, ruled, applies, mark_of, latest, rate_at};
+ghost use Rattle.tariff.specs.Table.{days_of_week, slot_count, slot_at, slots_of, default, byte_of_kind, minute_of};
+ghost use Rattle.tariff.specs.Judge.{uses, names_above, judged};
+ghost use Rattle.tariff.specs.Rate.{weekday_of, today_of, day_type, covers, ruled, applies, mark_of, latest, rate_in, rate_at};
 ghost use Rattle.tariff.specs.Scans.{ruler_of, outranked, force_of, followed};
 
+mod entries;
 mod judged;
+pub mod slots;
 
-use calendar::Found;
+use answers::Refusal;
 
 pub const MOST_TIMES: u32 = 48;
 
@@ -26,12 +29,11 @@ pub const SLOT: usize = 5;
 
 pub const TABLE: usize = SLOT * SLOTS;
 
+pub type Table = [u8; TABLE];
+
 pub const MOST_TYPES: u8 = 8;
 
 pub const EVERY_YEAR: u8 = 100;
-
-// The date of every year has to be real in this one.
-const LEAP_YEAR: u32 = 0;
 
 pub const HOURS: u8 = 24;
 
@@ -42,18 +44,27 @@ pub const SECONDS_OF_MINUTE: u64 = 60;
 // 2000-01-01 was a Saturday: so many days after a Monday.
 const SINCE_MONDAY: u32 = 5;
 
-// The kinds of entries, a lower one ranking higher among those that cover days.
-pub const UNUSED: u8 = 0;
+// The kinds of entries in the order of their bytes, a lower one ranking higher among those that cover days.
+#[derive(Clone, Copy, PartialEq, Eq, Debug)]
+pub enum Kind {
+    Unused,
+    Time,
+    Exception,
+    Weekdays,
+    Default,
+}
 
-pub const TIME: u8 = 1;
+pub const UNUSED: u8 = Kind::Unused as u8;
 
-pub const EXCEPTION: u8 = 2;
+pub const TIME: u8 = Kind::Time as u8;
 
-pub const WEEKDAYS: u8 = 3;
+pub const EXCEPTION: u8 = Kind::Exception as u8;
 
-pub const DEFAULT: u8 = 4;
+pub const WEEKDAYS: u8 = Kind::Weekdays as u8;
 
-// A slot's five bytes.
+pub const DEFAULT: u8 = Kind::Default as u8;
+
+// A slot's five bytes, of any values.
 #[derive(Clone, Copy)]
 pub struct Entry {
     pub kind: u8,
@@ -74,8 +85,8 @@ pub struct Today {
 
 // ---- one entry
 
-pub fn slot(l: &[u8], i: usize) -> Entry
-    requires { (length l.now ≡ table_size) × (i < slot_count) }
+pub fn slot(l: &Table, i: usize) -> Entry
+    requires { i < slot_count }
     ensures { result ≡ slot_at l.now i }
 {
     let at = SLOT * i;
@@ -88,154 +99,86 @@ pub fn slot(l: &[u8], i: usize) -> Entry
     }
 }
 
-fn is_time(e: Entry) -> bool
-    ensures { result ≡ is_time e }
-{
-    e.kind == TIME
-}
+impl Entry {
+    // None where the byte is no kind's.
+    pub fn kind(self) -> Option<Kind>
+        ensures { MatchOption result (default < self.kind) (λ kind. self.kind ≡ byte_of_kind kind) }
+    {
+        match self.kind {
+            UNUSED => Some(Kind::Unused),
+            TIME => Some(Kind::Time),
+            EXCEPTION => Some(Kind::Exception),
+            WEEKDAYS => Some(Kind::Weekdays),
+            DEFAULT => Some(Kind::Default),
+            _ => None,
+        }
+    }
 
-fn is_exception(e: Entry) -> bool
-    ensures { result ≡ is_exception e }
-{
-    e.kind == EXCEPTION
-}
-
-fn is_default(e: Entry) -> bool
-    ensures { result ≡ is_default e }
-{
-    e.kind == DEFAULT
+    pub fn is(self, kind: Kind) -> bool
+        ensures { result ≡ nat_eq self.kind (byte_of_kind kind) }
+    {
+        self.kind == kind as u8
+    }
 }
 
 // The minute of the day of a switching time.
+#[tactic(auto, unfolding(crate::specs::Table::minute_of))]
 pub fn minute(e: Entry) -> u32
     ensures { (result ≡ minute_of e) × (result ≤ 15555) }
 {
     e.x as u32 * MINUTES as u32 + e.y as u32
 }
 
-fn year(e: Entry) -> u32
-    ensures { result ≡ year_of e }
+// Whether it gives days a day type.
+pub fn uses(e: Entry) -> bool
+    ensures { result ≡ uses e }
 {
-    if e.x == EVERY_YEAR {
-        return LEAP_YEAR;
-    }
-    e.x as u32
+    matches!(
+        e.kind(),
+        Some(Kind::Exception | Kind::Weekdays | Kind::Default)
+    )
 }
 
-fn date_ok(e: Entry) -> bool
-    ensures { result ≡ date_ok e }
-{
-    let found = calendar::day_of_date(year(e), e.y as u32, e.z as u32);
-    match found {
-        Found::Day(_) => true,
-        Found::Unreal => false,
-    }
-}
-
-fn time_ok(e: Entry) -> bool
-    ensures { result ≡ time_ok e }
-{
-    (e.kind == TIME) & (e.x < HOURS) & (e.y < MINUTES) & registers::rate_ok(e.z as u32)
-}
-
-fn entry_ok(e: Entry) -> bool
-    ensures { result ≡ entry_ok e }
-{
-    let rest = (e.x == 0) & (e.y == 0) & (e.z == 0);
-    let blank = (e.kind == UNUSED) & (e.daytype == 0) & rest;
-    let kind = (1 <= e.daytype) & (e.daytype <= MOST_TYPES);
-    let weekdays = (e.kind == WEEKDAYS)
-        & (1 <= e.x)
-        & (e.x <= e.y)
-        & (e.y <= DAYS_OF_WEEK)
-        & (e.z == 0);
-    let default = (e.kind == DEFAULT) & rest;
-    let exception = (e.kind == EXCEPTION) & date_ok(e);
-    blank | (kind & (time_ok(e) | exception | weekdays | default))
-}
-
-fn opens(daytype: u8, e: Entry) -> bool
-    ensures { result ≡ opens daytype e }
-{
-    (e.kind == TIME) & (e.daytype == daytype) & (minute(e) == 0)
-}
-
-fn above(n: u32, e: Entry) -> bool
-    ensures { result ≡ above n e }
-{
-    (e.kind == TIME) & registers::rate_ok(e.z as u32) & (n < e.z as u32)
-}
-
-fn same_time(a: Entry, b: Entry) -> bool
-    ensures { result ≡ same_time a b }
-{
-    let kind = (a.kind == TIME) & (b.kind == TIME) & (a.daytype == b.daytype);
-    kind & (minute(a) == minute(b))
-}
-
-// Of two entries of one kind, for it looks at all that they have.
-fn meet(a: Entry, b: Entry) -> bool
-    ensures { result ≡ clash a b }
-{
-    let date = (a.kind == EXCEPTION)
-        & (b.kind == EXCEPTION)
-        & (a.y == b.y)
-        & (a.z == b.z)
-        & ((a.x == b.x) | (a.x == EVERY_YEAR) | (b.x == EVERY_YEAR));
-    let week = (a.kind == WEEKDAYS) & (b.kind == WEEKDAYS) & (a.x <= b.y) & (b.x <= a.y);
-    let default = (a.kind == DEFAULT) & (b.kind == DEFAULT);
-    same_time(a, b) | date | week | default
-}
-
-fn clash(a: Entry, b: Entry) -> bool
-    ensures { result ≡ clash a b }
-{
-    if a.kind != b.kind {
-        return false;
-    }
-    meet(a, b)
-}
-
+#[tactic(auto, unfolding(crate::specs::Rate::covers))]
 fn covers(k: Today, e: Entry) -> bool
     ensures { result ≡ covers k e }
 {
-    if e.kind == EXCEPTION {
-        return ((e.x == EVERY_YEAR) | (e.x as u32 == k.yy))
+    match e.kind() {
+        Some(Kind::Exception) => ((e.x == EVERY_YEAR) | (e.x as u32 == k.yy))
             & (e.y as u32 == k.mm)
-            & (e.z as u32 == k.dd);
+            & (e.z as u32 == k.dd),
+        Some(Kind::Weekdays) => (e.x as u32 <= k.week) & (k.week <= e.y as u32),
+        Some(Kind::Default) => true,
+        _ => false,
     }
-    if e.kind == WEEKDAYS {
-        return (e.x as u32 <= k.week) & (k.week <= e.y as u32);
-    }
-    e.kind == DEFAULT
 }
 
 // ---- the whole table
 
-// The answer to a load: 6, 14, or 0.
-pub fn judge(l: &[u8]) -> u32
-    ensures { result ≡ judged l.now }
+// Whether a load takes it: 6, 14, or done.
+#[tactic(auto, unfolding(crate::specs::Judge::judged))]
+pub fn judge(l: &[u8]) -> Result<(), Refusal>
+    ensures { judged_as result ≡ judged l.now }
 {
-    if l.len() != TABLE {
-        return answers::RANGE;
+    let table = l.as_array().ok_or(Refusal::Range)?;
+    if !judged::is_sound(table) {
+        return Err(Refusal::Range);
     }
-    if !judged::is_sound(l) {
-        return answers::RANGE;
+    if judged::any_clash(table) {
+        return Err(Refusal::Clash);
     }
-    if judged::any_clash(l) {
-        return answers::CLASH;
-    }
-    answers::DONE
+    Ok(())
 }
 
 // Whether some switching time names a rate above n.
+#[tactic(auto, unfolding(crate::specs::Judge::names_above))]
 pub fn names_above(l: &[u8], n: u32) -> bool
     ensures { result ≡ names_above n l.now }
 {
-    if l.len() != TABLE {
+    let Some(table) = l.as_array() else {
         return false;
-    }
-    judged::any_above(l, n)
+    };
+    judged::any_above(table, n)
 }
 
 // ---- the rate
@@ -248,39 +191,31 @@ pub fn weekday(d: u32) -> u32
     (d + SINCE_MONDAY) % DAYS_OF_WEEK as u32 + 1
 }
 
+#[tactic(auto, unfolding(crate::specs::Rate::today_of))]
 fn day_key(d: u32) -> Today
     requires { d < days_in_all }
     ensures { result ≡ today_of d }
 {
     let date = calendar::date_of_day(d);
-    let week = weekday(d);
     Today {
         yy: date.yy,
         mm: date.mm,
         dd: date.dd,
-        week: week,
+        week: weekday(d),
     }
 }
 
 fn mark(e: Entry) -> u32
     ensures { result ≡ mark_of e }
 {
-    if e.kind == TIME {
-        return minute(e) + 1;
-    }
-    0
+    if e.is(Kind::Time) { minute(e) + 1 } else { 0 }
 }
 
+#[tactic(auto, unfolding(crate::specs::Rate::applies))]
 fn applies(daytype: u8, clock: u32, e: Entry) -> bool
     ensures { result ≡ applies daytype clock e }
 {
-    if e.kind != TIME {
-        return false;
-    }
-    if e.daytype != daytype {
-        return false;
-    }
-    minute(e) <= clock
+    e.is(Kind::Time) && e.daytype == daytype && minute(e) <= clock
 }
 
 // Of the entry that rules, what matters: two numbers, so that the scan keeps them in registers.
@@ -290,36 +225,28 @@ pub struct Ruler {
     pub daytype: u8,
 }
 
+#[tactic(auto, unfolding(crate::specs::Scans::outranked))]
 fn outranked(k: Today, e: Entry, best: Ruler) -> Ruler
     ensures { result ≡ outranked k e best }
 {
-    if best.kind <= e.kind {
-        return best;
-    }
-    if covers(k, e) {
-        return Ruler {
+    if e.kind < best.kind && covers(k, e) {
+        Ruler {
             kind: e.kind,
             daytype: e.daytype,
-        };
+        }
+    } else {
+        best
     }
-    best
 }
 
-fn ruling(l: &[u8], k: Today) -> Ruler
-    requires { length l.now ≡ table_size }
+fn ruling(l: &Table, k: Today) -> Ruler
     ensures { result ≡ ruler_of (ruled k (slots_of l.now)) }
 {
-    let mut best = Ruler {
+    let nobody = Ruler {
         kind: DEFAULT + 1,
         daytype: 0,
     };
-    let mut i: usize = 0;
-    while i < SLOTS {
-        let e = slot(l, i);
-        best = outranked(k, e, best);
-        i += 1;
-    }
-    best
+    slots::fold(l, nobody, |best, e| outranked(k, e, best))
 }
 
 // Of the switching time in force, in the same way.
@@ -329,55 +256,48 @@ pub struct Force {
     pub rate: u8,
 }
 
+#[tactic(auto, unfolding(crate::specs::Scans::followed))]
 fn followed(daytype: u8, clock: u32, e: Entry, best: Force) -> Force
     ensures { result ≡ followed daytype clock e best }
 {
-    if !applies(daytype, clock, e) {
-        return best;
+    if applies(daytype, clock, e) && best.mark < mark(e) {
+        Force {
+            mark: mark(e),
+            rate: e.z,
+        }
+    } else {
+        best
     }
-    let m = mark(e);
-    if best.mark < m {
-        return Force { mark: m, rate: e.z };
-    }
-    best
 }
 
-fn in_force(l: &[u8], daytype: u8, clock: u32) -> Force
-    requires { length l.now ≡ table_size }
+fn in_force(l: &Table, daytype: u8, clock: u32) -> Force
     ensures { result ≡ force_of (latest daytype clock (slots_of l.now)) }
 {
-    let mut best = Force { mark: 0, rate: 0 };
-    let mut i: usize = 0;
-    while i < SLOTS {
-        let e = slot(l, i);
-        best = followed(daytype, clock, e, best);
-        i += 1;
-    }
-    best
+    let nothing = Force { mark: 0, rate: 0 };
+    slots::fold(l, nothing, |best, e| followed(daytype, clock, e, best))
 }
 
 // The type of a day.
-pub fn day_type(l: &[u8], d: u32) -> u8
-    requires { (length l.now ≡ table_size) × (d < days_in_all) }
+pub fn day_type(l: &Table, d: u32) -> u8
+    requires { d < days_in_all }
     ensures { result ≡ day_type l.now d }
 {
-    let ruler = ruling(l, day_key(d));
-    ruler.daytype
+    ruling(l, day_key(d)).daytype
 }
 
-// The rate at a second, 0 where there is no table or no such second.
+// The rate at a second, 0 where there is no table or no such second. All in one function: a Clock with a table takes a sixth longer where the second half is one of its own.
+#[tactic(auto, unfolding(crate::specs::Rate::rate_at, crate::specs::Rate::rate_in))]
 pub fn rate_at(l: &[u8], t: u64) -> u32
     ensures { result ≡ rate_at l.now t }
 {
-    if l.len() != TABLE {
+    let Some(table) = l.as_array() else {
         return 0;
-    }
+    };
     if calendar::TIMES_IN_ALL <= t {
         return 0;
     }
     let d = (t / calendar::SECONDS_OF_DAY) as u32;
-    let daytype = day_type(l, d);
+    let daytype = day_type(table, d);
     let m = (t % calendar::SECONDS_OF_DAY / SECONDS_OF_MINUTE) as u32;
-    let force = in_force(l, daytype, m);
-    force.rate as u32
+    in_force(table, daytype, m).rate as u32
 }

@@ -1,16 +1,19 @@
 -- What each loop that is timed keeps, and what it has done at its end.
 -- Assumes nothing.
 use Prim.Native.Nat.{ℕ, ◌+◌, ◌≤◌, ◌<◌}
-use mathlib.Core.Path.{◌≡◌, ap, ◌∙◌}
+use mathlib.Core.Path.{◌≡◌, refl, ap, ◌∙◌}
 use mathlib.Core.List.{List}
 use native.Mathlib.Omega.{arith}
 use borrow.Author.Tests.{eq-eqb, ne_eqb}
+use Rattle.std.specs.Prelude.{Result, Ok, Err}
+use Rattle.std.specs.Result.{result_unwrap_or}
+use Rattle.answers.specs.declared.Refusal.{Refusal}
 use Rattle.laws.specs.Each.{for_to}
 use Rattle.laws.proofs.Loop.{Loop, loop_start, loop_on, loop_done}
 use Rattle.store.specs.Store.{Store}
 use Rattle.outstation.specs.declared.Happening.{Happening}
 use Rattle.outstation.specs.declared.Happening.TheVariants.{Load}
-use Rattle.outstation.specs.declared.Answered.{Answered}
+use Rattle.outstation.specs.declared.Outstation.{Outstation}
 use Rattle.outstation.specs.declared.Phase.TheVariants.{Poly}
 use Rattle.outstation.specs.Outstation.{Site, site, Done, done, happening, happens}
 use Rattle.outstation.specs.SetUp.{set_up_site}
@@ -18,9 +21,9 @@ use Rattle.timed.specs.declared.Course.{Course}
 use Rattle.timing.specs.Timed.{meter}
 use Rattle.timed.specs.Timed.{begun, later, nth, coming, played, total_of, time_of, rate_of}
 
-pub set_up_after : (d : Answered) (v s m b : List ℕ) (x : Store) (c : List ℕ) → done d v s m b ≡ set_up_site meter Poly x c → site d.outstation v s m b ≡ begun x c
+pub set_up_after : (a : Result (Unit {0}) Refusal) (o : Outstation) (v s m b : List ℕ) (x : Store) (c : List ℕ) → done a o v s m b ≡ set_up_site meter Poly x c → site o v s m b ≡ begun x c
 unfolding begun
-set_up_after d v s m b x c e = ap (λ (y : Done). y.after) e
+set_up_after a o v s m b x c e = ap (λ (y : Done). y.after) e
 
 module _ (course : Course) (i : ℕ) where
   pub nth_load : i ≡ 0 → Load ≡ nth course i
@@ -40,11 +43,11 @@ module _ (course : Course) (f : List ℕ) (n : ℕ) (x₀ : Site) where
   pub going_none : Going course f n x₀ 0 x₀
   going_none = loop_start (λ (j : ℕ) (y : Site). j ≤ n) (coming course f) 0 n x₀ (omega arith)
 
-  pub going_on : (i : ℕ) (x : Site) (h : Happening) (d : Answered) (v s m b : List ℕ) → Going course f n x₀ i x → i < n → h ≡ nth course i
-      → done d v s m b ≡ happens x (happening h f) → Going course f n x₀ (i + 1) (site d.outstation v s m b)
+  pub going_on : (i : ℕ) (x : Site) (h : Happening) (a : Result (Unit {0}) Refusal) (o : Outstation) (v s m b : List ℕ) → Going course f n x₀ i x → i < n → h ≡ nth course i
+      → done a o v s m b ≡ happens x (happening h f) → Going course f n x₀ (i + 1) (site o v s m b)
   unfolding coming
-  going_on i x h d v s m b g l p e =
-      loop_on (λ (j : ℕ) (y : Site). j ≤ n) (coming course f) 0 n x₀ i x (site d.outstation v s m b) g l
+  going_on i x h a o v s m b g l p e =
+      loop_on (λ (j : ℕ) (y : Site). j ≤ n) (coming course f) 0 n x₀ i x (site o v s m b) g l
       (ap (λ (y : Done). y.after) (e ∙ ap (λ (k : Happening). happens x (happening k f)) p)) (omega arith)
 
   pub going_done : (i : ℕ) (x : Site) → Going course f n x₀ i x → n ≤ i → x ≡ for_to (coming course f) 0 n x₀

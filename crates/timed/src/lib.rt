@@ -10,12 +10,10 @@ ghost use Rattle.timed.specs.declared.Course.TheVariants.{Counts, Clocks, Loads}
 ghost use Rattle.timed.specs.Timed.{begun, later, nth, coming, played, told, total_of, time_of, rate_of};
 
 use outstation::{Happening, Outstation, Phase};
-use quantity::MilliwattHours;
 use recorder::Event;
-use store::Class;
 
 // Which events come after the load, one after another; or loads.
-#[derive(Clone, Copy)]
+#[derive(Clone, Copy, PartialEq, Eq, Debug)]
 pub enum Course {
     Counts,
     Clocks(u32),
@@ -38,34 +36,23 @@ fn nth(course: Course, i: u32) -> Happening
     ensures { result ≡ nth course i }
 {
     if i == 0 {
-        return Happening::Load;
+        Happening::Load
+    } else {
+        later(course, i)
     }
-    later(course, i)
 }
 
 fn begun(values: &mut [u16], starts: &mut [u32], marks: &mut [u64], table: &mut [u8]) -> Outstation
     ensures { site result values.new starts.new marks.new table.new
         ≡ begun (store values.old starts.old marks.old) table.old }
 {
-    let s = Outstation::set_up(
-        timing::METER,
-        Class::D,
-        Phase::Poly,
-        MilliwattHours(timing::PULSE),
-        0,
-        MilliwattHours(0),
-        0,
-        values,
-        starts,
-        marks,
-        table,
-    );
-    s.outstation
+    let (o, _answer) = Outstation::set_up(timing::METER, Phase::Poly, values, starts, marks, table);
+    o
 }
 
-// n of what comes, each handing its outstation to the next. It is the one place where something happens, as an outstation's program has one.
+// n of what comes, whatever it is answered. It is the one place where something happens, as an outstation's program has one.
 fn often(
-    o: Outstation,
+    mut o: Outstation,
     course: Course,
     offered: &[u8],
     values: &mut [u16],
@@ -77,14 +64,10 @@ fn often(
     ensures { site result values.new starts.new marks.new table.new
         ≡ for_to (coming course offered.now) 0 n (site o values.old starts.old marks.old table.old) }
 {
-    let mut q = o;
-    let mut i: u32 = 0;
-    while i < n {
-        let s = q.happens(nth(course, i), offered, values, starts, marks, table);
-        q = s.outstation;
-        i += 1;
+    for i in 0..n {
+        let _answer = o.happens(nth(course, i), offered, values, starts, marks, table);
     }
-    q
+    o
 }
 
 fn played(
@@ -116,8 +99,7 @@ pub fn timed_tariff_counts(
         ≡ total_of (played Counts n offered.now (store values.old starts.old marks.old) table.old) }
 {
     let o = played(Course::Counts, offered, values, starts, marks, table, n);
-    let r = o.recorder;
-    r.energy.total.0
+    o.recorder.energy.total.0
 }
 
 // A load, and n - 1 Clocks, each so many seconds on; the time afterwards.
@@ -134,8 +116,7 @@ pub fn timed_tariff_clocks(
         ≡ time_of (played (Clocks by) n offered.now (store values.old starts.old marks.old) table.old) }
 {
     let o = played(Course::Clocks(by), offered, values, starts, marks, table, n);
-    let r = o.recorder;
-    r.clock.time
+    o.recorder.clock.time
 }
 
 // n loads; the active rate afterwards.
@@ -151,6 +132,5 @@ pub fn timed_tariff_loads(
         ≡ rate_of (played Loads n offered.now (store values.old starts.old marks.old) table.old) }
 {
     let o = played(Course::Loads, offered, values, starts, marks, table, n);
-    let r = o.recorder;
-    r.energy.rate as u64
+    o.recorder.energy.rate as u64
 }

@@ -4,24 +4,31 @@
 
 ghost use Rattle.std.specs.Prelude.{◌≡◌, ◌*◌};
 ghost use Rattle.laws.specs.Each.{for_to};
+ghost use Rattle.answers.specs.Answer.{answered};
 ghost use Rattle.recorder.specs.Recorder.{mem};
 ghost use Rattle.store.specs.Store.{store};
 ghost use Rattle.timing.specs.declared.Kind.TheVariants.{Counts, Clocks, Outages};
 ghost use Rattle.timing.specs.Timed.{begun, outage, nth, coming, played, totalled, total_of, time_of, stored, reads, reads_of};
 
+use answers::Refusal;
 use quantity::MilliwattHours;
-use recorder::{Event, Recorder};
+use recorder::{Event, Recorder, SetUp};
 use store::Class;
 
 const ALL_DAYS: u32 = Class::DAYS_D;
 
 // The meter that is set up: its identifier, ABCX24000017, and the weight of a pulse, 1 Wh.
-pub const METER: [u8; 12] = [65, 66, 67, 88, 50, 52, 48, 48, 48, 48, 49, 55];
-
-pub const PULSE: u64 = 1000;
+pub const METER: SetUp = SetUp {
+    identifier: [65, 66, 67, 88, 50, 52, 48, 48, 48, 48, 49, 55],
+    class: Class::D,
+    weight: MilliwattHours(1000),
+    time: 0,
+    total: MilliwattHours(0),
+    counter: 0,
+};
 
 // Which events come, one after another.
-#[derive(Clone, Copy)]
+#[derive(Clone, Copy, PartialEq, Eq, Debug)]
 pub enum Kind {
     Counts,
     Clocks(u32),
@@ -40,9 +47,10 @@ fn outage(by: u32, i: u32) -> Event
     ensures { result ≡ outage by i }
 {
     if i % 2 == 1 {
-        return Event::Off;
+        Event::Off
+    } else {
+        Event::On(time_at(by, i / 2))
     }
-    Event::On(time_at(by, i / 2))
 }
 
 // The i-th event: the counter goes on by one pulse each time, or the time by so many seconds, with power or without.
@@ -60,23 +68,13 @@ fn begun(values: &mut [u16], starts: &mut [u32], marks: &mut [u64]) -> Recorder
     ensures { mem result values.new starts.new marks.new
         ≡ begun (store values.old starts.old marks.old) }
 {
-    let s = Recorder::set_up(
-        METER,
-        Class::D,
-        MilliwattHours(PULSE),
-        0,
-        MilliwattHours(0),
-        0,
-        values,
-        starts,
-        marks,
-    );
-    s.recorder
+    let (r, _answer) = Recorder::set_up(METER, values, starts, marks);
+    r
 }
 
-// n events, each handing its recorder to the next. It is the one place that steps, as a recorder's program has one, so that the step becomes part of the loop.
+// n events, whatever they are answered. It is the one place that steps, as a recorder's program has one, so that the step becomes part of the loop.
 fn often(
-    r: Recorder,
+    mut r: Recorder,
     kind: Kind,
     values: &mut [u16],
     starts: &mut [u32],
@@ -86,14 +84,11 @@ fn often(
     ensures { mem result values.new starts.new marks.new
         ≡ for_to (coming kind) 0 n (mem r values.old starts.old marks.old) }
 {
-    let mut q = r;
-    let mut i: u32 = 0;
-    while i < n {
-        i += 1;
-        let s = q.step(nth(kind, i), values, starts, marks);
-        q = s.recorder;
+    for i in 0..n {
+        let (next, _answer) = r.step(nth(kind, i + 1), values, starts, marks);
+        r = next;
     }
-    q
+    r
 }
 
 fn played(kind: Kind, values: &mut [u16], starts: &mut [u32], marks: &mut [u64], n: u32) -> Recorder
@@ -143,6 +138,16 @@ pub fn timed_outages(
     r.clock.time
 }
 
+// The bytes that a read carries, done or refused.
+fn carried(answer: Result<u32, Refusal>) -> u32
+    ensures { result ≡ (answered answer).carried }
+{
+    match answer {
+        Ok(sent) => sent,
+        Err(refusal) => refusal.carried(),
+    }
+}
+
 fn read_often(
     r: Recorder,
     values: &[u16],
@@ -154,11 +159,9 @@ fn read_often(
     ensures { reads out.new result ≡ reads_of n (mem r values.now starts.now marks.now) out.old }
 {
     let mut bytes: u64 = 0;
-    let mut i: u32 = 0;
-    while i < n {
-        let h = readout::read(r, ALL_DAYS, values, starts, marks, out);
-        bytes += h.carried as u64;
-        i += 1;
+    for _i in 0..n {
+        let answer = readout::read(&r, ALL_DAYS, values, starts, marks, out);
+        bytes += carried(answer) as u64;
     }
     bytes
 }

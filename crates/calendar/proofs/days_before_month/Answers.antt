@@ -4,8 +4,5 @@ use Rattle.calendar.proofs.days_before_month.Goals as goal
 pub returns-then-i-lt2 : goal.returns-then-i-lt2
 returns-then-i-lt2 c = (search before_march_lem, search before_few)
 
-pub overflow_add-result : goal.overflow_add-result
-overflow_add-result c = search from_fits
-
 pub returns : goal.returns
 returns c = (search from_march, search from_few)

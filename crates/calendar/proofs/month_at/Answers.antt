@@ -5,8 +5,5 @@ use Rattle.calendar.proofs.month_at.Goals as goal
 pub shifted-s-requires : goal.shifted-s-requires
 shifted-s-requires c = search (year_short, rules)
 
-pub overflow_sub-result : goal.overflow_sub-result
-overflow_sub-result c = search month_below
-
 pub returns : goal.returns
 returns c = (search month_at, search month_last, search month_rest)

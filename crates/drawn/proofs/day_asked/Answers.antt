@@ -1,11 +1,5 @@
-use Rattle.drawn.proofs.Answered.{asked_short, asked_other, asked_day}
+use Rattle.drawn.proofs.Answered.{date_fits}
 use Rattle.drawn.proofs.day_asked.Goals as goal
 
-pub returns-then-input-lt-ASKED : goal.returns-then-input-lt-ASKED
-returns-then-input-lt-ASKED c = search asked_short
-
-pub returns-then-wide-ne-NEWLINE : goal.returns-then-wide-ne-NEWLINE
-returns-then-wide-ne-NEWLINE c = search asked_other
-
-pub returns : goal.returns
-returns c = search asked_day
+pub overflow_cast-date : goal.overflow_cast-date
+overflow_cast-date c = record { fits = date_fits _ _ _ c.spelt.ensures c.in_ok-date.was }

@@ -1,16 +1,17 @@
-use Rattle.drawn.proofs.Answered.{taken_long, taken_day, refused_shown, refused_length, text_shown, text_none, text_length, text_fits}
-use native.Mathlib.Omega.{arith}
-use borrow.Author.Rules.{rules}
+use Rattle.drawn.proofs.Answered.{taken_day, prints_refusal, prints_text, printed_length}
 use Rattle.drawn.proofs.drawn_from.Goals as goal
 
-pub returns-then-a-ne-DONE : goal.returns-then-a-ne-DONE
-returns-then-a-ne-DONE c = (search refused_shown, search refused_length, search rules)
+pub fit-requires : goal.fit-requires
+fit-requires c = taken_day _ _ (c.in-Ok.ensures).1
 
-pub fit-r-requires : goal.fit-r-requires
-fit-r-requires c = (search taken_long, search taken_day)
+pub returns-in-Ok : goal.returns-in-Ok
+returns-in-Ok c =
+    let t = c.in-Ok.ensures in
+    let text = prints_text _ _ t.1 in
+    let k = printed_length _ _ c.fit.result c.fit.ensures.1 in
+    (rw (← text, ← t.0) c.fit.ensures.0, rw (← text, ← t.0, c.unwrap_or.ensures) k.0, rw c.unwrap_or.ensures k.1)
 
-pub returns-then-r-ne-DONE : goal.returns-then-r-ne-DONE
-returns-then-r-ne-DONE c = (search text_shown, search text_none, omega arith)
-
-pub returns : goal.returns
-returns c = (search text_shown, search text_length, search text_fits)
+pub returns-in-Err : goal.returns-in-Err
+returns-in-Err c =
+    let text = prints_refusal _ _ _ c.in-Err.ensures in
+    (rw (← text, ← c.number.ensures) c.refused.ensures.0, rw (← text, ← c.number.ensures) c.refused.ensures.1, c.refused.ensures.2)

@@ -1,5 +1,5 @@
 use Rattle.drawn.proofs.Days.{half_turn}
-use Rattle.laws.proofs.Rows.{row_none, row_all}
+use Rattle.laws.proofs.Rows.{row_none}
 use Rattle.drawn.proofs.put_halves.Goals as goal
 
 pub loop-j-init : goal.loop-j-init
@@ -7,6 +7,3 @@ loop-j-init c = search row_none
 
 pub loop-j-preserved : goal.loop-j-preserved
 loop-j-preserved c = search half_turn
-
-pub returns : goal.returns
-returns c = search row_all

@@ -1,4 +1,4 @@
-use Rattle.parts.proofs.Laws.{put_none, put_on, put_all}
+use Rattle.parts.proofs.Laws.{put_none, put_on}
 use Rattle.parts.proofs.from8.Goals as goal
 
 pub loop-i-init : goal.loop-i-init
@@ -6,6 +6,3 @@ loop-i-init c = search put_none
 
 pub loop-i-preserved : goal.loop-i-preserved
 loop-i-preserved c = search put_on
-
-pub returns : goal.returns
-returns c = search put_all

@@ -1,17 +1,15 @@
-use Rattle.laws.proofs.Tests.{all_start, all_passed, all_stop, all_done}
-use Rattle.registers.specs.Energy.{rates_ok}
+use Rattle.std.proofs.Common.{◌<◌, get_or, rules, arith, ltb-true, lt-ltb}
+use Rattle.std.specs.Prelude.{◌↔◌, EachIndex, IsTrue}
+use Rattle.laws.proofs.Bools.{bool_eq}
+use Rattle.laws.proofs.Tests.{all_at, all_of}
+use Rattle.quantity.specs.Units.{total_round}
+use Rattle.registers.specs.Energy.{rate_test, rates_ok, no_energy}
 use Rattle.registers.proofs.rates_ok.Goals as goal
-
-pub loop-i-init : goal.loop-i-init
-loop-i-init c = search all_start
-
-pub returns-then-not-rates-i : goal.returns-then-not-rates-i
-unfolding rates_ok
-returns-then-not-rates-i c = search all_stop
-
-pub loop-i-preserved : goal.loop-i-preserved
-loop-i-preserved c = search all_passed
 
 pub returns : goal.returns
 unfolding rates_ok
-returns c = search all_done
+returns c =
+    let rates = c.args.rates in
+    let h : IsTrue c.all.result ↔ EachIndex rates (λ k. (get_or rates k no_energy).0 < total_round) = search rules in
+    bool_eq _ _ (λ e. all_of (rate_test rates) 8 (λ k l. lt-ltb _ _ (h.0 e k (omega arith))))
+    (λ e. h.1 (λ k l. ltb-true _ _ (all_at (rate_test rates) 8 e k (omega arith))))

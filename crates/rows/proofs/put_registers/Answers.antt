@@ -1,5 +1,5 @@
 use native.Mathlib.Omega.{arith}
-use Rattle.laws.proofs.Rows.{row_none, row_more, row_all}
+use Rattle.laws.proofs.Rows.{row_none, row_more}
 use Rattle.rows.proofs.Laws.{register_of_lem}
 use Rattle.rows.proofs.put_registers.Goals as goal
 
@@ -8,6 +8,3 @@ loop-i-init c = row_none _ _ _ _ (omega arith)
 
 pub loop-i-preserved : goal.loop-i-preserved
 loop-i-preserved c = search (row_more, register_of_lem)
-
-pub returns : goal.returns
-returns c = search row_all

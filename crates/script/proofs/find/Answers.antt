@@ -1,18 +1,17 @@
-use Rattle.script.proofs.Words.{looking_none, looking_on, found_here, found_none}
+use Rattle.std.proofs.Common.{rules, tests}
+use Rattle.std.proofs.lemmas.Iterator.{YieldsList-from_slice}
+use Rattle.std.proofs.lemmas.Iterator.Search.{position_from_yields_List}
+use Rattle.script.proofs.Words.{found_at, found_nowhere}
 use Rattle.script.proofs.find.Goals as goal
 
-pub loop-i-init : goal.loop-i-init
-loop-i-init c = search looking_none
+pub returns-in-Some : goal.returns-in-Some
+returns-in-Some c =
+    found_at _ _ _ c.requires c.position.result
+    (position_from_yields_List _ _ _ c.position.result c.position.ensures.ran (YieldsList-from_slice _ c.iter.ensures.rest) (λ x b q k. search (rules, tests)))
+    _ c.in-Some.is
 
-pub returns-then-text-i : goal.returns-then-text-i
-returns-then-text-i c =
-    let p = c.loop-i.invariant in
-    (found_here _ _ _ _ p c.loop-i-test.true c.if-text-i.true, p.since, p.room)
-
-pub loop-i-preserved : goal.loop-i-preserved
-loop-i-preserved c = looking_on _ _ _ _ c.loop-i.invariant c.loop-i-test.true c.if-text-i.false
-
-pub returns : goal.returns
-returns c =
-    let p = c.loop-i.invariant in
-    (found_none _ _ _ _ p c.loop-i-test.false, p.since, p.room)
+pub returns-in-None : goal.returns-in-None
+returns-in-None c =
+    found_nowhere _ _ _ c.requires c.position.result
+    (position_from_yields_List _ _ _ c.position.result c.position.ensures.ran (YieldsList-from_slice _ c.iter.ensures.rest) (λ x b q k. search (rules, tests)))
+    c.in-None.is

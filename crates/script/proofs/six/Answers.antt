@@ -1,8 +1,5 @@
-use Rattle.script.proofs.Numbers.{no_six, is_six}
+use Rattle.script.proofs.Numbers.{six_below}
 use Rattle.script.proofs.six.Goals as goal
 
-pub returns-then-word-ne6 : goal.returns-then-word-ne6
-returns-then-word-ne6 c = search no_six
-
-pub returns : goal.returns
-returns c = search is_six
+pub returns-clause-bound : goal.returns-clause-bound
+returns-clause-bound c = six_below _ _ c.spelt.ensures

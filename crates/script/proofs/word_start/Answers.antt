@@ -2,9 +2,6 @@ use native.Mathlib.Omega.{arith}
 use Rattle.script.proofs.Words.{passed_none, passed_on, passed_end, passed_all}
 use Rattle.script.proofs.word_start.Goals as goal
 
-pub loop-j-init : goal.loop-j-init
-loop-j-init c = search passed_none
-
 pub returns-then-end-line : goal.returns-then-end-line
 returns-then-end-line c = (omega arith, search passed_end)
 

@@ -1,12 +1,11 @@
-use native.Mathlib.Omega.{arith}
-use Rattle.tariff.proofs.Turns.{ruler_none, ruler_turn, ruler_end}
+use Rattle.std.proofs.Common.{rules, ◌∙◌}
+use Rattle.tariff.specs.Rate.{ruled}
+use Rattle.tariff.specs.Scans.{ruler_of, outranked}
+use mathlib.Core.Path.{◌≡◌}
+use Rattle.tariff.proofs.Turns.{ruler_none, ruler_next}
 use Rattle.tariff.proofs.ruling.Goals as goal
 
-pub loop-i-init : goal.loop-i-init
-loop-i-init c = (omega arith, search ruler_none)
-
-pub loop-i-preserved : goal.loop-i-preserved
-loop-i-preserved c = (omega arith, search ruler_turn)
-
 pub returns : goal.returns
-returns c = search ruler_end
+returns c =
+    let k = c.args.k in
+    c.fold.ensures (λ es. ruler_of (ruled k es)) (ruler_none k) (λ e es r h. let next : r ≡ outranked k e (ruler_of (ruled k es)) = search rules in next ∙ ruler_next k e es)

@@ -1,4 +1,4 @@
-use Prim.Native.Nat.{◌-◌, ◌<◌}
+use Prim.Native.Nat.{◌<◌}
 use mathlib.Core.Path.{◌≡◌}
 use lib.ListN.{length}
 use Rattle.outstation.specs.Outstation.{site}
@@ -6,7 +6,4 @@ use Rattle.timed.proofs.Laws.{Going}
 use Rattle.timed.proofs.often.Given as goal
 
 abbrev pub invariant-loop-i : goal.invariant-loop-i
-invariant-loop-i l = (length l.values ≡ length l.initial.values) × (length l.starts ≡ length l.initial.starts) × (length l.marks ≡ length l.initial.marks) × (length l.table ≡ length l.initial.table) × (l.n < 4294967296) × Going l.course l.offered l.n (site l.initial.q l.initial.values l.initial.starts l.initial.marks l.initial.table) l.i (site l.q l.values l.starts l.marks l.table)
-
-abbrev pub decreases-loop-i : goal.decreases-loop-i
-decreases-loop-i l = l.n - l.i
+invariant-loop-i l = (length l.values ≡ length l.initial.values) × (length l.starts ≡ length l.initial.starts) × (length l.marks ≡ length l.initial.marks) × (length l.table ≡ length l.initial.table) × (l.n < 4294967296) × Going l.course l.offered l.n (site l.initial.o l.initial.values l.initial.starts l.initial.marks l.initial.table) l.i (site l.o l.values l.starts l.marks l.table)

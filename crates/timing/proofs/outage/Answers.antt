@@ -4,5 +4,5 @@ use Rattle.timing.proofs.outage.Goals as goal
 pub returns-then-i-eq1 : goal.returns-then-i-eq1
 returns-then-i-eq1 c = search outage_begins
 
-pub returns : goal.returns
-returns c = search outage_ends
+pub returns-else-i-eq1 : goal.returns-else-i-eq1
+returns-else-i-eq1 c = search outage_ends

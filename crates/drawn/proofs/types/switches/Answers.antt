@@ -3,4 +3,4 @@ use Rattle.drawn.proofs.types.switches.Goals as goal
 
 pub returns : goal.returns
 unfolding switches
-returns c = rw c.minute.ensures.0
+returns c = rw (c.is.ensures, c.minute.ensures.0)

@@ -1,18 +1,19 @@
+use Rattle.laws.proofs.Exits.{exit_is}
 use Rattle.outstation.proofs.Laws.{loaded_long, load_unready, load_high, load_bad, load_done}
-use borrow.Author.Rules.{rules}
 use Rattle.outstation.proofs.Outstation.with_table.Goals as goal
 
-pub returns-then-a-ne-DONE : goal.returns-then-a-ne-DONE
-returns-then-a-ne-DONE c = search load_unready
+pub returns-in_err-ready : goal.returns-in_err-ready
+returns-in_err-ready c = rw (exit_is c.from_residual.ensures.1) (load_unready _ _ _ _ _ c.requires _ c.in_err-ready.ensures.judged c.in_err-ready.ensures.bare _)
 
 pub returns-then-names_above : goal.returns-then-names_above
-returns-then-names_above c = search load_high
+returns-then-names_above c = load_high _ _ _ _ _ c.requires c.in_ok-ready.ensures.judged _ _ c.most_rate.ensures _ c.names_above.ensures c.if-names_above.true
 
-pub returns-then-j-ne-DONE : goal.returns-then-j-ne-DONE
-returns-then-j-ne-DONE c = search load_bad
+pub returns-in_err-judge : goal.returns-in_err-judge
+returns-in_err-judge c = rw (exit_is c.from_residual-in_err-judge.ensures.1) (load_bad _ _ _ _ _ c.requires c.in_ok-ready.ensures.judged _ _ c.most_rate.ensures _ c.names_above.ensures c.if-names_above.false _ c.in_err-judge.ensures)
 
-pub copy-requires : goal.copy-requires
-copy-requires c = search (loaded_long, rules)
+pub copy_from_slice-requires : goal.copy_from_slice-requires
+copy_from_slice-requires c = loaded_long _ _ c.in_ok-judge.ensures c.requires.long
 
 pub returns : goal.returns
-returns c = load_done _ _ _ _ _ c.requires _ c.ready-a.ensures c.if-a-ne-DONE.false _ _ c.most_rate.ensures _ c.names_above.ensures c.if-names_above.false _ c.judge-j.ensures c.if-j-ne-DONE.false _ c.copy.ensures _ c.rate_then-n.ensures _ c.answered-2.ensures
+returns c =
+    load_done _ _ _ _ _ c.requires c.in_ok-ready.ensures.judged _ _ c.most_rate.ensures _ c.names_above.ensures c.if-names_above.false c.in_ok-judge.ensures _ _ c.copy_from_slice.ensures.after _ c.rate_then-self.ensures

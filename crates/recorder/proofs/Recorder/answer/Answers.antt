@@ -13,5 +13,5 @@ returns-then-not-good c = search (out_of_range_lem, in_halves)
 pub event_answer-requires : goal.event_answer-requires
 event_answer-requires c = search (range_counts, range_time, in_halves)
 
-pub returns : goal.returns
-returns c = search (event_judged, in_halves)
+pub returns-clause-judged : goal.returns-clause-judged
+returns-clause-judged c = search (event_judged, in_halves)

@@ -12,5 +12,5 @@ changed-requires c = search (not_told, rules)
 pub told-requires : goal.told-requires
 told-requires c = search told_goes
 
-pub returns : goal.returns
-returns c = search (told_done, c.requires)
+pub returns-clause-is : goal.returns-clause-is
+returns-clause-is c = search (told_done, c.requires)

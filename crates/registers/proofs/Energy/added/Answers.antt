@@ -3,9 +3,6 @@ use Rattle.registers.proofs.Laws.{added_few, added_fits}
 use Rattle.std.proofs.Common.{rules}
 use Rattle.registers.proofs.Energy.added.Goals as goal
 
-pub overflow_mul-result : goal.overflow_mul-result
-overflow_mul-result c = search (added_fits, rules)
-
 pub returns : goal.returns
 unfolding added_of
 returns c = (cc, search (added_few, rules))

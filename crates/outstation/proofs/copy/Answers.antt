@@ -1,5 +1,0 @@
-use Rattle.outstation.proofs.Laws.{copied}
-use Rattle.outstation.proofs.copy.Goals as goal
-
-pub returns : goal.returns
-returns c = copied _ _ _ c.requires.0 c.requires.1 c.put_bytes.ensures.is

@@ -1,5 +1,0 @@
-use Rattle.parts.proofs.Laws.{part_is}
-use Rattle.parts.proofs.part64.Goals as goal
-
-pub returns : goal.returns
-returns c = search part_is

@@ -1,4 +1,0 @@
-use Rattle.registers.proofs.Shift.late.Goals as goal
-
-pub returns-in-Ahead : goal.returns-in-Ahead
-returns-in-Ahead c = cc
