@@ -128,7 +128,7 @@ carried_bit None = refl
 module _ (l out : List ℕ) where
   pub identifier_refused : (r : Refusal) → name r ≡ judged l → given out (number_of (answered (Err r))) ≡ give_identifier l out
   unfolding give_identifier
-  identifier_refused r e = row_refused out (table 12 (letter_of l)) (judged l) 0 r e (judged_low l)
+  identifier_refused r e = row_refused out (table 12 (letter_of l)) (judged l) 0 r e (omega (arith, judged_low l))
 
   module _ (z : 0 ≡ judged l) (m : List ℕ) where
     pub identifier_there : 12 ≤ length l
@@ -174,17 +174,18 @@ module _ (l : List ℕ) (d : ℕ) where
     unfolding give_halves
     halves_refused r e = row_refused out (table 48 (half_number (slot l (d - first_of l)))) (asked l d) (count (slot l (d - first_of l))) r (asked_refused l d r e) (asked_low l d)
 
-    module _ (k : ℕ) (at : ℕ) (z : 0 ≡ asked l d) (ea : at ≡ room_at (d - first_of l)) (ek : k ≡ count (day_at l at)) (m row : List ℕ) (p : row ≡ table 48 (half_number (day_at l at))) where
-      here : row ≡ table 48 (half_number (slot l (d - first_of l)))
-      unfolding slot
-      here = rw (← ea) p
+    pub halves_short : 0 ≡ asked l d → length out < 48 → given out (number_of (answered (Err (Short 48)))) ≡ give_halves l d out
+    unfolding give_halves
+    halves_short z h =
+        let day = table 48 (half_number (slot l (d - first_of l))) in
+        let long : length day ≡ 48 = length_table 48 (half_number (slot l (d - first_of l))) in
+        row_short out day (asked l d) (count (slot l (d - first_of l))) z out day refl (Short 48) (rw long h, refl, ap (λ n. Short n) (sym long))
 
-      pub halves_short : (r : Refusal) → (length out < length row) × (m ≡ out) × (r ≡ Short (length row)) → given m (number_of (answered (Err r))) ≡ give_halves l d out
-      unfolding give_halves
-      halves_short r g = row_short out (table 48 (half_number (slot l (d - first_of l)))) (asked l d) (count (slot l (d - first_of l))) z m row here r g
-
-      pub halves_given : (length row ≤ length out) × (m ≡ sets out 0 row) → given m (number_of (answered (Ok k))) ≡ give_halves l d out
-      unfolding give_halves slot
-      halves_given g =
-          let held : k ≡ count (slot l (d - first_of l)) = rw (← ea) ek in
-          rw held (row_given out (table 48 (half_number (slot l (d - first_of l)))) (asked l d) (count (slot l (d - first_of l))) z m row here g)
+    pub halves_given : (k at : ℕ) → 0 ≡ asked l d → at ≡ room_at (d - first_of l) → k ≡ count (day_at l at) → (m : List ℕ) → 48 ≤ length out → m ≡ sets out 0 (table 48 (half_number (day_at l at)))
+        → given m (number_of (answered (Ok k))) ≡ give_halves l d out
+    unfolding give_halves slot
+    halves_given k at z ea ek m h g =
+        let day = table 48 (half_number (slot l (d - first_of l))) in
+        let long : length day ≡ 48 = length_table 48 (half_number (slot l (d - first_of l))) in
+        let held : k ≡ count (slot l (d - first_of l)) = rw (← ea) ek in
+        rw held (row_given out day (asked l d) (count (slot l (d - first_of l))) z m day refl (rw long h, rw (← ea) g))

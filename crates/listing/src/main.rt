@@ -1,20 +1,21 @@
 // Prints the listing of the block on standard input. The buffer is one byte longer than the longest input that is taken.
 #![tactic(auto)]
 
-use std::io::Write;
-
-// Input is read by the crate `io`: std reads into memory that is lent and may stay partly empty only a part at a time.
+// Input is read by the crate `io`: std reads into memory that is lent and may stay partly empty only a part at a time. Output is written by it too: std's would rest on
+// the C library's error number besides its read and write.
 const STANDARD_INPUT: i32 = 0;
+
+const STANDARD_OUTPUT: i32 = 1;
 
 const ROOM: usize = lines::LONGEST_INPUT + 1;
 
 const TEXT: usize = lines::LONGEST_TEXT;
 
-fn main(rt: HostRuntime) {
+fn main() {
     let mut input = [0u8; ROOM];
     let mut text = [0u8; TEXT];
     let n = io::read_full(STANDARD_INPUT, &mut input);
     let k = lines::listed(&input[..n], &mut text);
     // Where it can't be written, there is nobody to tell.
-    let _ = rt.stdout().write_all(&text[..k]);
+    io::write_all(STANDARD_OUTPUT, &text[..k]);
 }

@@ -33,6 +33,15 @@ pub const TABLE: usize = tariff::TABLE + 1;
 
 pub type Table = [u8; TABLE];
 
+// An outstation's numbers; and the values, the starts and the marks of the longest store.
+pub type Row = [u64; ROW];
+
+pub type Values = [u16; VALUES];
+
+pub type Starts = [u32; STORE_DAYS];
+
+pub type Marks = [u64; MARKS];
+
 // The answer of what can't be refused, as the library for C has answers.
 pub const DONE: u64 = 0;
 
@@ -108,10 +117,10 @@ impl Lent {
 
 #[derive(Drop)]
 pub struct Outstation {
-    pub row: [u64; ROW],
-    pub values: [u16; VALUES],
-    pub starts: [u32; STORE_DAYS],
-    pub marks: [u64; MARKS],
+    pub row: Row,
+    pub values: Values,
+    pub starts: Starts,
+    pub marks: Marks,
     pub table: Table,
     pub lent: Lent,
     // how many bytes of the table's room are lent
@@ -181,7 +190,7 @@ impl Fields {
 // ---- a block, and the ledger
 
 // Room for N bytes, of which the first ones are lent.
-#[derive(Drop)]
+#[derive(Clone, Copy)]
 pub struct Buffer<const N: usize> {
     room: [u8; N],
     length: usize,
@@ -229,7 +238,7 @@ pub type Block = Buffer<LONGEST>;
 
 pub type Ledger = Buffer<LONGEST_LEDGER>;
 
-#[derive(Drop)]
+#[derive(Clone, Copy)]
 pub struct Blocks {
     pub kept: [Block; SHELVES],
     pub current: Block,

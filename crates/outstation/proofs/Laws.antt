@@ -1,11 +1,12 @@
 -- What happens to an outstation, in the form that the proofs of the code look for.
 -- Assumes nothing.
-use Prim.Native.Nat.{ℕ, ◌<◌, ◌≤◌}
+use Prim.Native.Nat.{ℕ, ◌+◌, ◌<◌, ◌≤◌}
 use mathlib.Core.Path.{◌≡◌, refl, sym, ap, ◌∙◌}
 use mathlib.Core.Bool.{Bool, true, false, not, cond, ◌&&◌, false≢true}
-use mathlib.Core.List.{List}
+use mathlib.Core.List.{List, ◌++◌, append-nil}
 use lib.Dec.{eqb, ltb}
-use lib.ListN.{length}
+use lib.ListN.{length, drop}
+use lib.Seq.{sets, sets-eq, drop-length}
 use native.Mathlib.Omega.{arith}
 use borrow.Author.Tests.{eq-eqb, ne_eqb, eqb-false, lt-ltb, le-ltb, not-true, not-false}
 use Rattle.std.specs.Prelude.{Result, Ok, Err}
@@ -87,6 +88,14 @@ real_class r k p ne = ne_eqb (cap_of r) 0 (λ z. ne (p ∙ z))
 
 pub roomy : (o : Outstation) (b : List ℕ) (k n : ℕ) → k ≡ cap_of o.recorder → (k ≡ 0 → ⊥) → length b ≡ table_size → n ≡ most_rate o.phase → o.recorder.energy.rate ≤ n → Roomy o b
 roomy o b k n p ne l q h = record { class = real_class o.recorder k p ne; long = l; low = le-ltb (most_rate o.phase) o.recorder.energy.rate (rw (← q) h) }
+
+-- ---- a whole copy
+
+pub copied : (l f k : List ℕ) → length l ≡ length f → k ≡ sets l 0 f → k ≡ f
+copied l f k p e =
+    e ∙ sets-eq f l 0 (omega (arith, p))
+    ∙ ap (λ (r : List ℕ). f ++ r) (ap (λ (n : ℕ). drop n l) (let g : 0 + length f ≡ length l = omega (arith, p) in g) ∙ drop-length l)
+    ∙ append-nil f
 
 pub loaded_long : (f b : List ℕ) → 0 ≡ judged f → length b ≡ table_size → length b ≡ length f
 loaded_long f b z l = l ∙ sym (passed f (sym z)).long

@@ -1,11 +1,19 @@
--- What a count can come to and what it does; each law concludes what a proof of the code looks for.
+-- Pulses as a wrapping difference, what a count can come to and what it does, a move back; each law concludes what a proof of the code looks for.
 -- Assumes nothing.
-use Rattle.std.proofs.Common.{◌≡◌, ℕ, ◌+◌, ◌-◌, ◌*◌, ◌^◌, ◌<◌, ◌≤◌, get_or, set, ap, mul-le-mul, arith, w64, Fits}
+use Rattle.std.proofs.Common.{◌≡◌, ℕ, ◌+◌, ◌-◌, ◌*◌, ◌%◌, ◌^◌, ◌<◌, ◌≤◌, false, get_or, set, ap, mul-le-mul, arith, w64, Fits, ltb-false}
 use Rattle.quantity.specs.declared.RegisterUnits.{RegisterUnits}
 use Rattle.quantity.specs.declared.MilliwattHours.{MilliwattHours}
 use Rattle.quantity.specs.Units.{milliwatt_hours, units, reading_of, reading_gap, energy_sum}
+use Rattle.calendar.specs.Clock.{seconds_of_half}
 use Rattle.registers.specs.declared.Energy.{Energy}
-use Rattle.registers.specs.Energy.{Countable, no_energy, most_weight, most_pulses, most_added, added_of, units_with, energy_counted}
+use Rattle.registers.specs.declared.Shift.{Shift}
+use Rattle.registers.specs.declared.Shift.TheVariants.{Back}
+use Rattle.registers.specs.Energy.{Countable, no_energy, most_weight, most_pulses, most_added, pulses_of, added_of, units_with, energy_counted}
+use Rattle.registers.specs.Shift.{early}
+
+-- a difference that runs round at 2^32 is the difference modulo 2^32
+pub wrapped : (c last p : ℕ) → c < 2 ^ 32 → last < 2 ^ 32 → p < 2 ^ 32 → (p + last) % 2 ^ 32 ≡ c → p ≡ pulses_of last c
+wrapped c last p hc hl hp e = omega arith
 
 pub added_few : (w : MilliwattHours) (e : Energy) (p : ℕ) → Countable w e → p < 2 ^ 32 → p * w.0 ≤ most_added
 added_few w e p g h = mul-le-mul {n₂ = most_pulses} {m₂ = most_weight} (omega arith) g.weight
@@ -39,3 +47,7 @@ module _ (w : MilliwattHours) (e : Energy) (g : Countable w e) (more : Milliwatt
       pub units_done : (c : ℕ) → more ≡ added_of w e.last c → units (gap.0 + (then.0 - now.0)) ≡ units (units_with w base c e)
       unfolding units_with
       units_done c f = rw (d, b, a, f)
+
+-- a move back that stays in its half-hour
+pub back_room : (now n : ℕ) (h : Shift) → early now h ≡ false → h ≡ Back n → n ≤ now
+back_room now n h e p = let l : n ≤ now % seconds_of_half = ltb-false _ _ (rw p at e) in omega arith

@@ -11,9 +11,9 @@ returns-then-names_above c = load_high _ _ _ _ _ c.requires c.in_ok-ready.ensure
 pub returns-in_err-judge : goal.returns-in_err-judge
 returns-in_err-judge c = rw (exit_is c.from_residual-in_err-judge.ensures.1) (load_bad _ _ _ _ _ c.requires c.in_ok-ready.ensures.judged _ _ c.most_rate.ensures _ c.names_above.ensures c.if-names_above.false _ c.in_err-judge.ensures)
 
-pub copy_from_slice-requires : goal.copy_from_slice-requires
-copy_from_slice-requires c = loaded_long _ _ c.in_ok-judge.ensures c.requires.long
+pub copy-requires : goal.copy-requires
+copy-requires c = loaded_long _ _ c.in_ok-judge.ensures c.requires.long
 
 pub returns : goal.returns
 returns c =
-    load_done _ _ _ _ _ c.requires c.in_ok-ready.ensures.judged _ _ c.most_rate.ensures _ c.names_above.ensures c.if-names_above.false c.in_ok-judge.ensures _ _ c.copy_from_slice.ensures.after _ c.rate_then-self.ensures
+    load_done _ _ _ _ _ c.requires c.in_ok-ready.ensures.judged _ _ c.most_rate.ensures _ c.names_above.ensures c.if-names_above.false c.in_ok-judge.ensures _ _ c.copy.ensures _ c.rate_then-self.ensures
