@@ -10,7 +10,7 @@ fn recorder<W: Write>(outstation: &Outstation, out: &mut W) {
     let row = &outstation.row;
     let phases = if row[station::SINGLE] == 1 { 1 } else { 3 };
     let _ = write!(out, "{}", row[rows::CLASS]);
-    printed::then_all(out, &row[rows::WEIGHT..station::SINGLE]);
+    printed::put_all(out, &row[rows::WEIGHT..station::SINGLE]);
     let _ = writeln!(out, " {phases}");
 }
 
@@ -32,8 +32,8 @@ fn room<W: Write>(room: usize, outstation: &Outstation, out: &mut W) {
     let words = &outstation.marks[marks::DAY_WORDS * d..marks::DAY_WORDS * d + marks::DAY_WORDS];
     let values = &outstation.values[block::HALVES * d..block::HALVES * d + block::HALVES];
     let _ = write!(out, "{} {}", outstation.starts[d], words[marks::FLAGS_WORD]);
-    printed::then_all(out, &words[..marks::FLAGS_WORD]);
-    printed::then_all(out, values);
+    printed::put_all(out, &words[..marks::FLAGS_WORD]);
+    printed::put_all(out, values);
     let _ = writeln!(out);
 }
 
@@ -51,7 +51,7 @@ fn summary<W: Write>(ledger: &[u8], day: u32, out: &mut W) {
     let mut numbers = [0u64; desk::SUMMARY];
     let answer = desk::cop6_summary(ledger, day, &mut numbers);
     let _ = write!(out, "{}", answer / desk::ANSWER);
-    printed::then_all(out, &numbers);
+    printed::put_all(out, &numbers);
     let _ = writeln!(out);
 }
 
@@ -83,16 +83,16 @@ pub fn shown<W: Write>(what: Shown, memory: &Memory, out: &mut W) -> bool {
     match what {
         Shown::Day(day) => return self::day(day, outstation, out),
         Shown::Recorder => recorder(outstation, out),
-        Shown::Block => printed::hex(out, block),
-        Shown::Check => printed::answer(out, desk::cop6_read(block)),
-        Shown::Listing => printed::listing(out, block),
-        Shown::Ledger => printed::hex(out, ledger),
+        Shown::Block => printed::put_hex(out, block),
+        Shown::Check => printed::put_answer(out, desk::cop6_read(block)),
+        Shown::Listing => printed::put_listing(out, block),
+        Shown::Ledger => printed::put_hex(out, ledger),
         Shown::Summary(day) => summary(ledger, day, out),
         Shown::Missing(day) => missing(ledger, day, out),
-        Shown::Table => printed::hex(out, outstation.lent_table()),
+        Shown::Table => printed::put_hex(out, outstation.lent_table()),
         Shown::RateAt(time) => {
             let rate = tariff::rate_at(outstation.lent_table(), time);
-            printed::answer(out, u64::from(rate));
+            printed::put_answer(out, u64::from(rate));
         }
         Shown::Week(day) => week(parts::part(&memory.editor, 0, tariff::TABLE), day, out),
     }

@@ -1,0 +1,2 @@
+-- Written: what each return and each turn says of an output.
+pub mod Written

@@ -1,0 +1,2 @@
+-- What is written, as bytes.
+pub mod Lines
